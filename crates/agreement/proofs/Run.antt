@@ -12,7 +12,9 @@ use Rattle.refusal.specs.declared.Refusal.{Refusal}
 use Rattle.sheet.specs.Corners.{CornerLists}
 use Rattle.sheet.specs.Pairing.{Shuffle, PairedCorners, PairedSheets}
 use Rattle.sheet.proofs.Pairing.{given_paired, listed_paired}
-use Rattle.labels.proofs.Pairing.{paired_rim, paired_one}
+use Rattle.labels.specs.Kept.{kept_of}
+use Rattle.labels.specs.declared.kept.KeptBox.{KeptBox}
+use Rattle.labels.proofs.Pairing.{paired_box, paired_rim, paired_one}
 use Rattle.arguments.specs.Shades.{any_shade, corners_of, PairedShades}
 use Rattle.arguments.specs.Arguments.{Checked, checked}
 use Rattle.arguments.specs.Accepted.{SettingsInside, GrowInside, FillInside, LocalInside, PassInside}
@@ -28,7 +30,7 @@ use Rattle.passes.specs.Grow.{grow_after}
 use Rattle.passes.specs.Fill.{fill_after}
 use Rattle.passes.specs.Local.{depth_of, unmatched_if, local_after}
 use Rattle.passes.specs.Step.{Rooms, lent_of, unless, grow_step, fill_step, local_step}
-use Rattle.passes.specs.Run.{Call, step, sheet_after, run}
+use Rattle.passes.specs.Run.{Handed, as_left, other, handed, Call, step, sheet_after, run}
 use Rattle.passes.specs.declared.PassStats.{PassStats}
 use Rattle.invariants.specs.Calls.{Standing, checked_call, answering, after_pass, after_call, lent_shades}
 use Rattle.invariants.proofs.Run.{step_as_lem, call_accepted, standing_step, invariants}
@@ -42,7 +44,7 @@ use Rattle.agreement.proofs.Local.{local_same}
 -- ---- outcomes
 
 answering_same : {n : ℕ} {s : Shuffle n} {A B : Type 0} (f : A → B) {a a' : After A} → SameAfter s a a' → SameAfter s (answering f a) (answering f a')
-answering_same f same = record { answer = ap f same.answer; sheet = same.sheet; attached = same.attached; visited = same.visited }
+answering_same f same = record { answer = ap f same.answer; sheet = same.sheet; attached = same.attached; visited = same.visited; box = same.box }
 
 -- a call that is checked alike and, if it runs, does the same
 unless_same : {n : ℕ} {s : Shuffle n} {A : Type 0} (k k' : Checked) (a a' : After A) → k' ≡ k → (k ≡ Ok tt → SameAfter s a a') → SameOutcome s (unless k a) (unless k' a')
@@ -71,20 +73,26 @@ above_split (ran h f) = (λ a e. h, f)
 
 -- a relisted call is the call, lent the relisted shades
 relisted_is : {n : ℕ} {s : Shuffle n} {c c' : Call} → RelistedCall s c c' → c' ≡ lent_shades c'.shades c
-relisted_is {c' = c'} w = λ t. record { pass = w.same_pass t; settings = w.same_settings t; shades = c'.shades; rooms = w.same_rooms t }
+relisted_is {c' = c'} w = λ t. record { pass = w.same_pass t; settings = w.same_settings t; shades = c'.shades; around = w.same_box t; rooms = w.same_rooms t }
 
 module _ (l l' : CornerLists) (corners : PairedCorners l l') (sheet sheet' : List ℕ)
     (paired : PairedSheets corners.pairs sheet sheet') (begins : Standing l sheet) where
+  -- the box that is handed is the same: that which the last call left, since the sheets are paired, or any other
+  handed_same : (h : Handed) → handed sheet' h ≡ handed sheet h
+  handed_same as_left = ap kept_of (paired_box paired)
+  handed_same (other k) = refl
+
   module _ (shades shades' : List ℕ) (kinds : PairedShades corners.pairs shades shades') where
     -- the same is said of what was passed over: one stands in both or in neither
     unmatched_same : length l.xs ≤ length shades → {m m' : ℕ} → m' ≡ m → unmatched_if (any_shade shades' (length l'.xs)) m' ≡ unmatched_if (any_shade shades (length l.xs)) m
     unmatched_same long e =
         ap₂ unmatched_if (ap (any_shade shades') corners.same_xs ∙ paired_any corners.pairs kinds long) e
 
-    -- refused alike
-    pub checked_same : (set : Settings) (rooms : Rooms) (pass : Pass) → checked (lent_of l' shades' sheet' rooms) set pass ≡ checked (lent_of l shades sheet rooms) set pass
-    checked_same set rooms pass =
-        checked_alike (lent_of l shades sheet rooms) (lent_of l' shades' sheet' rooms) set pass corners kinds paired refl refl (record { known = begins.given.known }) begins.one_cell
+    -- refused alike, with equal boxes
+    pub checked_same : (around around' : KeptBox) → around' ≡ around → (set : Settings) (rooms : Rooms) (pass : Pass)
+        → checked (lent_of l' shades' sheet' around' rooms) set pass ≡ checked (lent_of l shades sheet around rooms) set pass
+    checked_same around around' box set rooms pass =
+        checked_alike (lent_of l shades sheet around rooms) (lent_of l' shades' sheet' around' rooms) set pass corners kinds paired box refl refl (record { known = begins.given.known }) begins.one_cell
 
     -- what each pass does
     module _ (long : length l.xs ≤ length shades) (few : length l.xs ≤ 1024) (set : Settings) (inside : SettingsInside set) where
@@ -98,6 +106,7 @@ module _ (l l' : CornerLists) (corners : PairedCorners l l') (sheet sheet' : Lis
             sheet = same.sheet;
             attached = same.made;
             visited = same.queued;
+            box = ap kept_of (paired_box same.sheet);
           }
 
       fill_after_same : (p : FillParams) → FillInside p → lt one p.attach_ambiguity_factor ≡ true
@@ -110,6 +119,7 @@ module _ (l l' : CornerLists) (corners : PairedCorners l l') (sheet sheet' : Lis
             sheet = same.state.sheet;
             attached = same.state.made;
             visited = refl;
+            box = ap kept_of (paired_box same.state.sheet);
           }
 
       local_after_same : (p : LocalExtensionParams) → LocalInside p → lt one p.ambiguity_factor ≡ true
@@ -128,6 +138,7 @@ module _ (l l' : CornerLists) (corners : PairedCorners l l') (sheet sheet' : Lis
             sheet = same.state.sheet;
             attached = same.state.made;
             visited = refl;
+            box = ap kept_of (paired_box same.state.sheet);
           }
 
       pass_same : (p : Pass) → PassInside p → lt one (factor_of p) ≡ true → SameAfter corners.pairs (after_pass l shades sheet set p) (after_pass l' shades' sheet' set p)
@@ -136,26 +147,26 @@ module _ (l l' : CornerLists) (corners : PairedCorners l l') (sheet sheet' : Lis
       pass_same (Pass.Local p) numbers above = answering_same PassStats.Local (local_after_same p numbers above)
 
     -- the calls of grow, of fill and of local, as their contracts have them
-    pub grow_step_same : (set : Settings) (p : GrowParams) (rooms : Rooms) → lt one p.attach_ambiguity_factor ≡ true
-        → SameOutcome corners.pairs (grow_step l shades sheet set p rooms) (grow_step l' shades' sheet' set p rooms)
+    pub grow_step_same : (around around' : KeptBox) → around' ≡ around → (set : Settings) (p : GrowParams) (rooms : Rooms) → lt one p.attach_ambiguity_factor ≡ true
+        → SameOutcome corners.pairs (grow_step l shades sheet around set p rooms) (grow_step l' shades' sheet' around' set p rooms)
     unfolding grow_step
-    grow_step_same set p rooms above =
-        unless_same _ _ _ _ (checked_same set rooms (Pass.Grow p))
-        (λ e. let w = accepted (lent_of l shades sheet rooms) set (Pass.Grow p) e in grow_after_same w.shades_long w.few set w.settings_inside p w.pass_inside above)
+    grow_step_same around around' box set p rooms above =
+        unless_same _ _ _ _ (checked_same around around' box set rooms (Pass.Grow p))
+        (λ e. let w = accepted (lent_of l shades sheet around rooms) set (Pass.Grow p) e in grow_after_same w.shades_long w.few set w.settings_inside p w.pass_inside above)
 
-    pub fill_step_same : (set : Settings) (p : FillParams) (rooms : Rooms) → lt one p.attach_ambiguity_factor ≡ true
-        → SameOutcome corners.pairs (fill_step l shades sheet set p rooms) (fill_step l' shades' sheet' set p rooms)
+    pub fill_step_same : (around around' : KeptBox) → around' ≡ around → (set : Settings) (p : FillParams) (rooms : Rooms) → lt one p.attach_ambiguity_factor ≡ true
+        → SameOutcome corners.pairs (fill_step l shades sheet around set p rooms) (fill_step l' shades' sheet' around' set p rooms)
     unfolding fill_step
-    fill_step_same set p rooms above =
-        unless_same _ _ _ _ (checked_same set rooms (Pass.Fill p))
-        (λ e. let w = accepted (lent_of l shades sheet rooms) set (Pass.Fill p) e in fill_after_same w.shades_long w.few set w.settings_inside p w.pass_inside above)
+    fill_step_same around around' box set p rooms above =
+        unless_same _ _ _ _ (checked_same around around' box set rooms (Pass.Fill p))
+        (λ e. let w = accepted (lent_of l shades sheet around rooms) set (Pass.Fill p) e in fill_after_same w.shades_long w.few set w.settings_inside p w.pass_inside above)
 
-    pub local_step_same : (set : Settings) (p : LocalExtensionParams) (rooms : Rooms) → lt one p.ambiguity_factor ≡ true
-        → SameOutcome corners.pairs (local_step l shades sheet set p rooms) (local_step l' shades' sheet' set p rooms)
+    pub local_step_same : (around around' : KeptBox) → around' ≡ around → (set : Settings) (p : LocalExtensionParams) (rooms : Rooms) → lt one p.ambiguity_factor ≡ true
+        → SameOutcome corners.pairs (local_step l shades sheet around set p rooms) (local_step l' shades' sheet' around' set p rooms)
     unfolding local_step
-    local_step_same set p rooms above =
-        unless_same _ _ _ _ (checked_same set rooms (Pass.Local p))
-        (λ e. let w = accepted (lent_of l shades sheet rooms) set (Pass.Local p) e in local_after_same w.shades_long w.few set w.settings_inside p w.pass_inside above)
+    local_step_same around around' box set p rooms above =
+        unless_same _ _ _ _ (checked_same around around' box set rooms (Pass.Local p))
+        (λ e. let w = accepted (lent_of l shades sheet around rooms) set (Pass.Local p) e in local_after_same w.shades_long w.few set w.settings_inside p w.pass_inside above)
 
   -- any call and the relisted one, if it has a factor above 1 where it runs
   pub step_same : (c c' : Call) → RelistedCall corners.pairs c c' → ((a : After PassStats) → step l sheet c ≡ done a → AboveOne c)
@@ -164,7 +175,7 @@ module _ (l l' : CornerLists) (corners : PairedCorners l l') (sheet sheet' : Lis
       subst (λ (d : Call). SameOutcome corners.pairs (step l sheet c) (step l' sheet' d)) (sym (relisted_is w))
       (subst₂ (SameOutcome corners.pairs) (sym (step_as_lem l sheet c)) (sym (step_as_lem l' sheet' d'))
       (unless_same (checked_call l sheet c) (checked_call l' sheet' d') (after_call l sheet c) (after_call l' sheet' d')
-      (checked_same c.shades c'.shades w.shades c.settings c.rooms c.pass)
+      (checked_same c.shades c'.shades w.shades (handed sheet c.around) (handed sheet' c.around) (handed_same c.around) c.settings c.rooms c.pass)
       (λ e.
       let k = call_accepted l sheet c e in
       let runs : step l sheet c ≡ done (after_call l sheet c) = step_as_lem l sheet c ∙ ap (λ (k : Checked). unless k (after_call l sheet c)) e in
@@ -208,7 +219,7 @@ paired_unshaded {n} s shades e = record { same_length = refl; same_shade = λ lo
 pub relisted_unshaded : {n : ℕ} (s : Shuffle n) (calls : List Call) → NoneShaded n calls → Relisted s calls calls
 relisted_unshaded s [] w = no_call
 relisted_unshaded s (c ∷ cs) w =
-    relisted (record { same_pass = refl; same_settings = refl; same_rooms = refl; shades = paired_unshaded s c.shades w.0 }) (relisted_unshaded s cs w.1)
+    relisted (record { same_pass = refl; same_settings = refl; same_rooms = refl; same_box = refl; shades = paired_unshaded s c.shades w.0 }) (relisted_unshaded s cs w.1)
 
 pub agreement_unshaded : AgreementUnshaded
 agreement_unshaded l l' given given' frames calls w = agreement l l' given given' frames calls calls (relisted_unshaded frames.corners.pairs calls w)

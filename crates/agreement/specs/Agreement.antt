@@ -1,5 +1,5 @@
 -- Two runs of one list of calls on two frames that hold the same corners in another order (document 01, "Lists of passes, for demand 3"; document 02,
--- 1/14: their shades with them): what is compared after each call, and the claim that the runs agree. Definitions only.
+-- 1/14: their shades with them; 5/14: the label box): what is compared after each call, and the claim that the runs agree. Definitions only.
 use Rattle.std.specs.Prelude.{◌≡◌, true, false, List, [], ◌∷◌, ℕ, length, Float}
 use Rattle.std.specs.Float.Ieee.{lt}
 use Rattle.refusal.specs.declared.Refusal.{Refusal}
@@ -8,6 +8,7 @@ use Rattle.sheet.specs.Pairing.{Shuffle, PairedCorners, PairedSheets}
 use Rattle.arguments.specs.Shades.{any_shade, PairedShades}
 use Rattle.arguments.specs.declared.Pass.{Pass}
 use Rattle.passes.specs.Outcome.{After, Outcome, refused, done}
+use Rattle.passes.specs.Step.{box_left}
 use Rattle.passes.specs.Run.{Call, sheet_after, run}
 use Rattle.passes.specs.declared.PassStats.{PassStats}
 use Rattle.invariants.specs.Calls.{Standing, Invariant}
@@ -25,11 +26,13 @@ pub record Reordered (l l' : CornerLists) (given given' : List ℕ) : Type 0 whe
 -- ---- the two lists of calls
 
 -- "Relisting corners relists their shades, those of a frame's lines and those lent to a call alike: both corners of a pair have the same kind or none"
--- (document 02, 1/14): the same call, lent the relisted shades
+-- (document 02, 1/14): the same call, lent the relisted shades. Both are handed the label box as the last call of their run left it, or the same
+-- other one (5/14).
 pub record RelistedCall {n : ℕ} (s : Shuffle n) (c c' : Call) : Type 0 where
   pub same_pass : c'.pass ≡ c.pass
   pub same_settings : c'.settings ≡ c.settings
   pub same_rooms : c'.rooms ≡ c.rooms
+  pub same_box : c'.around ≡ c.around
   pub shades : PairedShades s c.shades c'.shades
 
 -- so call by call
@@ -45,12 +48,14 @@ NoneShaded n (c ∷ cs) = (any_shade c.shades n ≡ false) × NoneShaded n cs
 -- ---- what is compared after each call
 
 -- Of a call that ran: every count answered, that of unmatched corners among them, and all else that the pass line says; "a cell holds a corner in one
--- run exactly when it holds the paired one in the other", and equal marks cell by cell; attached lists and grow's visited cells, in order.
+-- run exactly when it holds the paired one in the other", and equal marks cell by cell; attached lists and grow's visited cells, in order; and the
+-- label box that is answered (document 02, 5/14).
 pub record SameAfter {n : ℕ} (s : Shuffle n) {A : Type 0} (a a' : After A) : Type 0 where
   pub answer : a'.answer ≡ a.answer
   pub sheet : PairedSheets s a.sheet a'.sheet
   pub attached : a'.attached ≡ a.attached
   pub visited : a'.visited ≡ a.visited
+  pub box : box_left a' ≡ box_left a
 
 -- "refused or not, and the number"
 pub data SameOutcome {n : ℕ} (s : Shuffle n) {A : Type 0} : Outcome A → Outcome A → Type 0 where

@@ -11,15 +11,22 @@ use Rattle.refusal.specs.declared.Refusal.{Refusal}
 use Rattle.binary32.specs.Ranges.{ends_of}
 use Rattle.sheet.specs.Cells.{cell_of}
 use Rattle.sheet.specs.Words.{label_of_number, label_of, hole_of, ambiguous_of}
+use Rattle.sheet.specs.Pairing.{Shuffle}
+use Rattle.labels.specs.Box.{box_of}
+use Rattle.labels.specs.Kept.{around_of, box_kept}
+use Rattle.labels.specs.declared.kept.KeptBox.{KeptBox}
+use Rattle.labels.proofs.Box.{box_of_framed}
 use Rattle.arguments.specs.Arguments.{Checked, queue_needed, too_short, over_limit, outside, some_corner_outside, settings_outside, local_outside, pass_outside, out_of_range, checked}
 use Rattle.arguments.proofs.Laws.{not_short}
 use Rattle.passes.specs.Outcome.{Outcome, refused, done}
 use Rattle.passes.specs.Step.{lent_of, unless}
-use Rattle.passes.specs.Run.{Call, step, run}
+use Rattle.passes.specs.Run.{other, Call, step, run}
 use Rattle.passes.specs.declared.PassStats.{PassStats}
 use Rattle.invariants.specs.Calls.{Standing, checked_call, after_call, CallInside}
+use Rattle.invariants.specs.Boxes.{handed_box, OthersFine}
 use Rattle.invariants.proofs.Run.{step_as_lem}
-use Rattle.agreement.specs.Agreement.{no_call, relisted, AboveOne, FactorsAbove, no_more, was_refused as was-not-run, ran}
+use Rattle.invariants.proofs.Boxes.{gets_three}
+use Rattle.agreement.specs.Agreement.{RelistedCall, no_call, relisted, AboveOne, FactorsAbove, no_more, was_refused as was-not-run, ran}
 use Rattle.frame_line.specs.Table.{kind_at}
 use Rattle.frame_line.specs.Lines.{bits_at, whole_at, pass_line_of}
 use Rattle.frame.specs.Frame.{Frame, opened, adding, parts_from, parts_of}
@@ -41,7 +48,7 @@ use Rattle.result_agreement.specs.Alike.{numbered_anew, numbers, ResultsAlike}
 use Rattle.result_agreement.proofs.Alike.{frames_answer_alike}
 use Rattle.answer_examples.specs.Answer.{given_in, frame_run, renumbered_in}
 use Rattle.answer_examples.specs.Pair.{first_text, second_text, local_line, first_frame, second_frame, first_result, second_result}
-use Rattle.answer_examples.specs.Claims.{refused_line, grow_line, fill_line, calls_from, calls, told_of, Met, Agreed}
+use Rattle.answer_examples.specs.Claims.{no_box, refused_line, grow_line, fill_line, calls_from, calls, told_of, Met, Agreed}
 use Rattle.answer_examples.proofs.Answer.{given_so, frame_went, own_run, answer_known, renumbered_known}
 use Rattle.answer_examples.proofs.Pairing.{first_read, second_read, same}
 use Rattle.answer_examples.proofs.Ran.{local_left, grow_left, fill_left, after, local_did, grow_did, fill_did}
@@ -70,6 +77,7 @@ list : List Asked
 list =
     runs (call_of first_frame local_line)
     ∷ refuses (call_of first_frame refused_line) Refusal.OutOfRange
+    ∷ refuses (handed_box (other no_box) (call_of first_frame grow_line)) Refusal.OutOfRange
     ∷ runs (call_of first_frame grow_line)
     ∷ runs (call_of first_frame fill_line)
     ∷ []
@@ -84,7 +92,7 @@ module _ (sheet : List ℕ) (s : Standing (frame_corners first_frame) sheet) whe
   abbrev c : Call
   c = call_of first_frame refused_line
 
-  long : too_short (lent_of (frame_corners first_frame) (shades_of first_frame) sheet frame_rooms) c.pass ≡ false
+  long : too_short (lent_of (frame_corners first_frame) (shades_of first_frame) sheet (box_kept sheet) frame_rooms) c.pass ≡ false
   unfolding queue_needed full_of pass_of xs_of shaded shades_of kind_at bits_at whole_at pass_line_of opened adding parts_from parts_of
   long =
       not_short _ _
@@ -97,7 +105,7 @@ module _ (sheet : List ℕ) (s : Standing (frame_corners first_frame) sheet) whe
         attached_long = omega arith;
       })
 
-  deep : out_of_range (lent_of (frame_corners first_frame) (shades_of first_frame) sheet frame_rooms) c.settings c.pass ≡ true
+  deep : out_of_range (lent_of (frame_corners first_frame) (shades_of first_frame) sheet (box_kept sheet) frame_rooms) c.settings c.pass ≡ true
   unfolding out_of_range pass_outside local_outside outside ends_of of_bits of_int le full_of pass_of
   deep = or_last (some_corner_outside (frame_corners first_frame) (shades_of first_frame)) (settings_outside c.settings)
 
@@ -108,9 +116,40 @@ module _ (sheet : List ℕ) (s : Standing (frame_corners first_frame) sheet) whe
   refused_so : step (frame_corners first_frame) sheet c ≡ refused Refusal.OutOfRange
   refused_so = step_as_lem (frame_corners first_frame) sheet c ∙ ap (λ (k : Checked). unless k (after_call (frame_corners first_frame) sheet c)) wild
 
+-- the call that is handed the other box, on any sheet: it would run if it were handed the box of the sheet
+grow_fits : CallInside (frame_corners first_frame) (call_of first_frame grow_line)
+unfolding calls_of full_of kind_at bits_at whole_at pass_line_of opened adding parts_from parts_of
+grow_fits = fits.1.0
+
+no_sheet_has : (sheet : List ℕ) → around_of no_box ≡ box_of sheet → ⊥
+unfolding around_of
+no_sheet_has sheet e = (box_of_framed sheet no_box.bounds (sym e)).low_i_in
+
+module _ (sheet : List ℕ) (s : Standing (frame_corners first_frame) sheet) where
+  others_fine : OthersFine (frame_corners first_frame) sheet (handed_box (other no_box) (call_of first_frame grow_line))
+  others_fine =
+      let g = grow_fits in
+      record {
+        long =
+            record {
+              ys_long = s.listed.ys_long;
+              pitches_long = s.listed.pitches_long;
+              shades_long = g.shades_long;
+              sheet_long = s.given.long;
+              queue_long = g.queue_long;
+              attached_long = g.attached_long;
+            };
+        few = g.few;
+        numbers =
+            record { corners_inside = g.corners_inside; shades_inside = g.shades_inside; settings_inside = g.settings_inside; pass_inside = g.pass_inside };
+      }
+
+  boxed_refused : step (frame_corners first_frame) sheet (handed_box (other no_box) (call_of first_frame grow_line)) ≡ refused Refusal.OutOfRange
+  boxed_refused = (gets_three (frame_corners first_frame) sheet (handed_box (other no_box) (call_of first_frame grow_line)) others_fine).1 (no_sheet_has sheet)
+
 list_goes : AsAsked (frame_corners first_frame) list
 unfolding list calls_of full_of kind_at bits_at whole_at pass_line_of opened adding parts_from parts_of
-list_goes = one_runs fits.0 (one_refused refused_so (one_runs fits.1.0 (one_runs fits.1.1.0 ends)))
+list_goes = one_runs fits.0 (one_refused refused_so (one_refused boxed_refused (one_runs fits.1.0 (one_runs fits.1.1.0 ends))))
 
 -- ---- what they do
 
@@ -135,11 +174,11 @@ own_left = ap (λ (a : AfterIn PassStats). a.sheet) fill_next
 
 -- the list of calls
 list_run : run (frame_corners first_frame) (sheet_of first_frame) calls
-    ≡ done (after_of local_left) ∷ refused Refusal.OutOfRange ∷ done (after_of grow_left) ∷ done (after_of fill_left) ∷ []
+    ≡ done (after_of local_left) ∷ refused Refusal.OutOfRange ∷ refused Refusal.OutOfRange ∷ done (after_of grow_left) ∷ done (after_of fill_left) ∷ []
 unfolding list callsAsked run_in
 list_run =
     ap (λ (sheet : List ℕ). run (frame_corners first_frame) sheet calls) (given_so first_frame) ∙ (frame_went first_text first_frame first_read list list_goes).run_so
-    ∙ (λ t. done (after_of (local_did t)) ∷ refused Refusal.OutOfRange ∷ done (after_of (grow_next t)) ∷ done (after_of (fill_next t)) ∷ [])
+    ∙ (λ t. done (after_of (local_did t)) ∷ refused Refusal.OutOfRange ∷ refused Refusal.OutOfRange ∷ done (after_of (grow_next t)) ∷ done (after_of (fill_next t)) ∷ [])
 
 own_factors : FactorsAbove (calls_of first_frame) (run (frame_corners first_frame) (sheet_of first_frame) (calls_of first_frame))
 unfolding calls_of full_of kind_at bits_at whole_at pass_line_of opened adding parts_from parts_of
@@ -150,7 +189,7 @@ own_factors =
 list_factors : FactorsAbove calls (run (frame_corners first_frame) (sheet_of first_frame) calls)
 list_factors =
     subst (FactorsAbove calls) (sym list_run)
-    (ran (local_above first_frame) (was-not-run (ran (grow_above first_frame) (ran (fill_above first_frame) no_more))))
+    (ran (local_above first_frame) (was-not-run (was-not-run (ran (grow_above first_frame) (ran (fill_above first_frame) no_more)))))
 
 -- ---- the claims
 
@@ -184,6 +223,10 @@ second_said : ResultsAlike first_text second_text first_frame second_frame same 
 second_said results =
     results.second_answer ∙ renumbered_known first_text first_frame first_read outcomes fill_left.sheet own_outcomes own_left (numbers same) ∙ second_text_lem
 
+-- relisted calls that are handed the same other box
+boxed_alike : {n : ℕ} {s : Shuffle n} {c c' : Call} {k : KeptBox} → RelistedCall s c c' → RelistedCall s (handed_box (other k) c) (handed_box (other k) c')
+boxed_alike r = record { same_pass = r.same_pass; same_settings = r.same_settings; same_rooms = r.same_rooms; same_box = refl; shades = r.shades }
+
 pub agreed : Agreed met
 unfolding met
 agreed =
@@ -194,7 +237,8 @@ agreed =
       list_agrees =
           (alike.any_list calls (calls_from second_frame)
           (relisted (alike.relisted_call local_line)
-          (relisted (alike.relisted_call refused_line) (relisted (alike.relisted_call grow_line) (relisted (alike.relisted_call fill_line) no_call))))
+          (relisted (alike.relisted_call refused_line)
+          (relisted (boxed_alike (alike.relisted_call grow_line)) (relisted (alike.relisted_call grow_line) (relisted (alike.relisted_call fill_line) no_call)))))
           ).agree list_factors;
       results = results;
       first_answer = first_said;

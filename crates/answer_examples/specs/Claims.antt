@@ -1,12 +1,14 @@
--- What is claimed of the two texts: they meet all that demand 3 asks of two frames, and so demand 3 speaks of them; and of a list of calls from them, one of
--- which is refused. `proofs/Pair.antt` proves `Met` and `Agreed`. Definitions only.
-use Rattle.std.specs.Prelude.{◌≡◌, List, [], ◌∷◌, map, ℕ, ◌<◌, pos, get_or, Option, Some, Float}
+-- What is claimed of the two texts: they meet all that demand 3 asks of two frames, and so demand 3 speaks of them; and of a list of calls from
+-- them, two of which are refused. `proofs/Pair.antt` proves `Met` and `Agreed`. Definitions only.
+use Rattle.std.specs.Prelude.{◌≡◌, false, List, [], ◌∷◌, map, ℕ, ◌<◌, pos, get_or, Option, Some, Float}
 use Rattle.std.specs.Float.{binary32}
 use Rattle.std.specs.Float.Ieee.{of_bits}
 use Rattle.refusal.specs.Refusal.{number_of}
+use Rattle.labels.specs.declared.kept.KeptBox.{KeptBox}
 use Rattle.passes.specs.Outcome.{Outcome, refused, done}
-use Rattle.passes.specs.Run.{Call, run}
+use Rattle.passes.specs.Run.{other, Call, run}
 use Rattle.passes.specs.declared.PassStats.{PassStats}
+use Rattle.invariants.specs.Boxes.{handed_box}
 use Rattle.agreement.specs.Agreement.{Agree, FactorsAbove}
 use Rattle.frame_line.specs.Lines.{PassLine, grow, fill, local, bare_grow}
 use Rattle.frame.specs.Frame.{Frame, read_frame, accepted}
@@ -30,9 +32,19 @@ grow_line = grow bare_grow.search bare_grow.factor bare_grow.boundary
 abbrev pub fill_line : PassLine
 fill_line = fill 0x3eb3_3333 0x3fc0_0000 (pos 1)
 
--- the pass lines as calls from a frame
+-- a label box that no sheet has, since its i is off the sheet: a call that is handed it is refused
+abbrev pub no_box : KeptBox
+no_box = record { empty = false; bounds = record { low_i = pos 64; high_i = pos 64; low_j = pos 0; high_j = pos 0 } }
+
+-- the pass lines as calls from a frame, each handed the box that the last call left; and between them a grow that is handed the other box
 abbrev pub calls_from : Frame → List Call
-calls_from f = map (call_of f) (local_line ∷ refused_line ∷ grow_line ∷ fill_line ∷ [])
+calls_from f =
+    call_of f local_line
+    ∷ call_of f refused_line
+    ∷ handed_box (other no_box) (call_of f grow_line)
+    ∷ call_of f grow_line
+    ∷ call_of f fill_line
+    ∷ []
 
 abbrev pub calls : List Call
 calls = calls_from first_frame
@@ -55,8 +67,8 @@ told_of (done a) = told_by a.answer
 -- ---- the claims
 
 -- Both texts are accepted; the frames differ only in the order of their corner lines, paired as listed, and two lines are equal. Each of the frames'
--- passes has a factor above 1. Of the list of calls, local attaches a corner by a fit whose residual is recorded, the next call is refused, and grow and
--- fill attach a corner each; those that run have a factor above 1.
+-- passes has a factor above 1. Of the list of calls, local attaches a corner by a fit whose residual is recorded, the next two calls are refused,
+-- and grow and fill attach a corner each; those that run have a factor above 1.
 pub record Met : Type 0 where
   pub first_read : read_frame first_text ≡ accepted first_frame
   pub second_read : read_frame second_text ≡ accepted second_frame
@@ -65,7 +77,7 @@ pub record Met : Type 0 where
   pub equal_lines : corner_line first_frame 7 ≡ corner_line first_frame 6
   pub factors : FactorsAbove (calls_of first_frame) (run (frame_corners first_frame) (sheet_of first_frame) (calls_of first_frame))
   pub outcomes : map told_of (run (frame_corners first_frame) (sheet_of first_frame) calls)
-      ≡ local_attached 1 (Some (of_bits binary32 0x3635_04f3)) ∷ was_refused 3 ∷ grow_attached 1 ∷ fill_added 1 ∷ []
+      ≡ local_attached 1 (Some (of_bits binary32 0x3635_04f3)) ∷ was_refused 3 ∷ was_refused 3 ∷ grow_attached 1 ∷ fill_added 1 ∷ []
   pub list_factors : FactorsAbove calls (run (frame_corners first_frame) (sheet_of first_frame) calls)
 
 -- So demand 3 holds of them: the runs of both frames are alike, those of the list of calls agree, and the answers differ only in the corner numbers of

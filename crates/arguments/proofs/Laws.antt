@@ -19,6 +19,7 @@ use Rattle.sheet.specs.Corners.{CornerLists, corner_of}
 use Rattle.sheet.specs.declared.Corner.{Corner}
 use Rattle.labels.specs.Used.{names, OneCell}
 use Rattle.labels.proofs.Below.{no_both, any_hit, any_yes, any_none, any_no}
+use Rattle.labels.proofs.Keeping.{kept_right, right_kept}
 use Rattle.labels.proofs.Used.{names_it, it_names}
 use Rattle.predict.specs.declared.Vector.{Vector}
 use Rattle.arguments.specs.Arguments.{Checked, Lent, corner_count, queue_needed, too_short, over_limit, outside, corner_outside, shade_outside, outside_at, some_corner_outside, axis_outside, settings_outside, grow_outside, fill_outside, local_outside, pass_outside, out_of_range, unknown, unknown_at, unknown_corner, same_corner, doubled_at, doubled_corner, refused_if, checked}
@@ -252,6 +253,7 @@ module _ (l : Lent) (settings : Settings) (pass : Pass) where
       let long = long_enough l pass a7.0 in
       let numbers = or_false_both (some_corner_outside l.corners l.shades) _ a3.0 in
       let others = or_false_both (settings_outside settings) _ numbers.1 in
+      let last = or_false_both (pass_outside pass) _ others.1 in
       record {
         queue_long = long.queue_long;
         attached_long = long.attached_long;
@@ -260,7 +262,8 @@ module _ (l : Lent) (settings : Settings) (pass : Pass) where
         corners_inside = λ k h. (corners_inside l.corners l.shades numbers.0 k h).0;
         shades_inside = λ k h. (corners_inside l.corners l.shades numbers.0 k h).1;
         settings_inside = settings_inside settings others.0;
-        pass_inside = pass_inside pass others.1;
+        pass_inside = pass_inside pass last.0;
+        box_right = kept_right _ _ last.1;
         listed = record { ys_long = long.ys_long; pitches_long = long.pitches_long };
         given = record { long = long.sheet_long; known = (known _ _ a5.0).known };
         one_cell = one_cell _ a6.0;
@@ -282,5 +285,6 @@ module _ (l : Lent) (settings : Settings) (pass : Pass) where
       (still_fine _ _ _ (le-ltb _ _ w.few)
       (still_fine _ _ _
       (or_false _ _ (corners_not_outside l.corners l.shades w.corners_inside w.shades_inside)
-      (or_false _ _ (settings_not_outside _ w.settings_inside) (pass_not_outside _ w.pass_inside)))
+      (or_false _ _ (settings_not_outside _ w.settings_inside)
+      (or_false _ _ (pass_not_outside _ w.pass_inside) (right_kept _ _ w.box_right))))
       (still_fine _ _ _ (not_unknown _ _ (record { known = w.given.known })) (still_fine _ _ _ (not_doubled _ w.one_cell) refl))))

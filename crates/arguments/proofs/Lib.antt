@@ -2,6 +2,7 @@
 pub mod Chains
 pub mod Tests
 pub mod Laws
+pub mod SheetSearch
 pub mod Pairing
 pub mod Meaning
 pub mod Holding

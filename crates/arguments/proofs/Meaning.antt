@@ -9,10 +9,12 @@ use borrow.Author.Tests.{lt-ltb, le-ltb, ltb-true, ltb-false, leb-true, le-leb}
 use lib.ListN.{get_or}
 use Rattle.refusal.specs.declared.Refusal.{Refusal}
 use Rattle.sheet.specs.Words.{label_of}
+use Rattle.labels.specs.Kept.{box_differs}
 use Rattle.labels.proofs.Below.{no_both, any_hit, any_yes}
-use Rattle.arguments.specs.Arguments.{Checked, Lent, corner_count, too_short, over_limit, some_corner_outside, settings_outside, out_of_range, unknown, unknown_at, unknown_corner, doubled_corner, refused_if, checked}
+use Rattle.labels.proofs.Keeping.{kept_right, right_kept, marked_empty}
+use Rattle.arguments.specs.Arguments.{Checked, Lent, corner_count, too_short, over_limit, some_corner_outside, settings_outside, pass_outside, out_of_range, unknown, unknown_at, unknown_corner, doubled_corner, refused_if, checked}
 use Rattle.arguments.specs.Accepted.{LongEnough}
-use Rattle.arguments.specs.Meaning.{NumbersInside, NamesUnknown, RefusedFor, Meaning, RefusedExactlyIf}
+use Rattle.arguments.specs.Meaning.{NoThree, NamesUnknown, RefusedFor, Meaning, RefusedExactlyIf, RefusedForItsBox, MarkAlone}
 use Rattle.arguments.specs.declared.Pass.{Pass}
 use Rattle.arguments.specs.declared.Settings.{Settings}
 use Rattle.arguments.proofs.Chains.{or_false, or_false_both}
@@ -46,26 +48,32 @@ module _ (l : Lent) (settings : Settings) (pass : Pass) where
   unfolding over_limit
   few e = ltb-false 1024 (corner_count l) e
 
-  numbers_inside : out_of_range l settings pass ≡ false → NumbersInside l settings pass
+  no_three : out_of_range l settings pass ≡ false → NoThree l settings pass
   unfolding out_of_range
-  numbers_inside e =
+  no_three e =
       let a = or_false_both (some_corner_outside l.corners l.shades) _ e in
       let b = or_false_both (settings_outside settings) _ a.1 in
+      let d = or_false_both (pass_outside pass) _ b.1 in
       record {
-        corners_inside = λ k h. (corners_inside l.corners l.shades a.0 k h).0;
-        shades_inside = λ k h. (corners_inside l.corners l.shades a.0 k h).1;
-        settings_inside = settings_inside settings b.0;
-        pass_inside = pass_inside pass b.1;
+        numbers =
+            record {
+              corners_inside = λ k h. (corners_inside l.corners l.shades a.0 k h).0;
+              shades_inside = λ k h. (corners_inside l.corners l.shades a.0 k h).1;
+              settings_inside = settings_inside settings b.0;
+              pass_inside = pass_inside pass d.0;
+            };
+        box_right = kept_right _ _ d.1;
       }
 
-  numbers_not_outside : NumbersInside l settings pass → out_of_range l settings pass ≡ false
+  not_three : NoThree l settings pass → out_of_range l settings pass ≡ false
   unfolding out_of_range
-  numbers_not_outside w =
-      or_false _ _ (corners_not_outside l.corners l.shades w.corners_inside w.shades_inside)
-      (or_false _ _ (settings_not_outside _ w.settings_inside) (pass_not_outside _ w.pass_inside))
+  not_three w =
+      or_false _ _ (corners_not_outside l.corners l.shades w.numbers.corners_inside w.numbers.shades_inside)
+      (or_false _ _ (settings_not_outside _ w.numbers.settings_inside)
+      (or_false _ _ (pass_not_outside _ w.numbers.pass_inside) (right_kept _ _ w.box_right)))
 
-  is_outside : (NumbersInside l settings pass → ⊥) → out_of_range l settings pass ≡ true
-  is_outside f = yes_else (out_of_range l settings pass) (λ e. f (numbers_inside e))
+  is_outside : (NoThree l settings pass → ⊥) → out_of_range l settings pass ≡ true
+  is_outside f = yes_else (out_of_range l settings pass) (λ e. f (no_three e))
 
 -- some place names a corner from n on
 unknown_corner_lem : (n : ℕ) (label : Option ℕ) (P : Type 0) → unknown n label ≡ true → ((k : ℕ) → label ≡ Some k → n ≤ k → P) → P
@@ -98,9 +106,9 @@ module _ (l : Lent) (settings : Settings) (pass : Pass) where
   means =
       tried (too_short l pass) _ _ (λ e w. no_both (too_short l pass) e (not_short l pass w))
       (λ a7. tried (over_limit l) _ _ (λ e. (long_enough l pass a7, over l settings pass e))
-      (λ a2. tried (out_of_range l settings pass) _ _ (λ e. (long_enough l pass a7, few l settings pass a2, λ w. no_both (out_of_range l settings pass) e (numbers_not_outside l settings pass w)))
-      (λ a3. tried (unknown_corner (corner_count l) l.sheet) _ _ (λ e. (long_enough l pass a7, few l settings pass a2, numbers_inside l settings pass a3, names_unknown _ _ e))
-      (λ a5. tried (doubled_corner l.sheet) _ _ (λ e. (long_enough l pass a7, few l settings pass a2, numbers_inside l settings pass a3, known _ _ a5, on_two_places _ e))
+      (λ a2. tried (out_of_range l settings pass) _ _ (λ e. (long_enough l pass a7, few l settings pass a2, λ w. no_both (out_of_range l settings pass) e (not_three l settings pass w)))
+      (λ a3. tried (unknown_corner (corner_count l) l.sheet) _ _ (λ e. (long_enough l pass a7, few l settings pass a2, no_three l settings pass a3, names_unknown _ _ e))
+      (λ a5. tried (doubled_corner l.sheet) _ _ (λ e. (long_enough l pass a7, few l settings pass a2, no_three l settings pass a3, known _ _ a5, on_two_places _ e))
       (λ a6. accepted l settings pass (sym (refused_none l settings pass a7 a2 (sym a3) a5 a6)))))))
 
   -- what holds is answered
@@ -112,11 +120,11 @@ module _ (l : Lent) (settings : Settings) (pass : Pass) where
       sym (refused_3 l settings pass (not_short l pass w.0) (not_over l settings pass w.1) (sym (is_outside l settings pass w.2)))
   meant (Err Refusal.UnknownCorner) w =
       sym
-      (refused_5 l settings pass (not_short l pass w.0) (not_over l settings pass w.1) (sym (numbers_not_outside l settings pass w.2))
+      (refused_5 l settings pass (not_short l pass w.0) (not_over l settings pass w.1) (sym (not_three l settings pass w.2))
       (is_unknown _ _ w.3))
   meant (Err Refusal.Duplicate) w =
       sym
-      (refused_6 l settings pass (not_short l pass w.0) (not_over l settings pass w.1) (sym (numbers_not_outside l settings pass w.2))
+      (refused_6 l settings pass (not_short l pass w.0) (not_over l settings pass w.1) (sym (not_three l settings pass w.2))
       (not_unknown _ _ w.3) (doubled _ w.4))
   meant (Err Refusal.Malformed) w = absurd w
   meant (Err Refusal.OffSheet) w = absurd w
@@ -125,3 +133,15 @@ module _ (l : Lent) (settings : Settings) (pass : Pass) where
 
 pub refused_exactly_if : RefusedExactlyIf
 refused_exactly_if l settings pass answer = (λ e. subst (Meaning l settings pass) e (means l settings pass), meant l settings pass answer)
+
+-- ---- the label box
+
+pub refused_for_its_box : RefusedForItsBox
+refused_for_its_box l settings pass long few numbers = (
+  λ e right. (subst (Meaning l settings pass) e (means l settings pass)).2 (record { numbers = numbers; box_right = right }),
+  λ differs. meant l settings pass (Err Refusal.OutOfRange) (long, few, λ w. differs w.box_right),
+)
+
+pub mark_alone : MarkAlone
+unfolding checked too_short over_limit out_of_range box_differs
+mark_alone l settings pass a b e f = rw (marked_empty a e, marked_empty b f) refl

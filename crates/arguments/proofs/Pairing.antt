@@ -14,7 +14,9 @@ use Rattle.sheet.specs.Pairing.{Shuffle, paired_label, PairedCorners, PairedShee
 use Rattle.sheet.proofs.Words.{no_corner_lem}
 use Rattle.sheet.proofs.Pairing.{to_one}
 use Rattle.labels.specs.Used.{OneCell}
+use Rattle.labels.specs.Kept.{box_differs}
 use Rattle.labels.proofs.Count.{any_paired}
+use Rattle.labels.proofs.Pairing.{paired_box}
 use Rattle.arguments.specs.Arguments.{Lent, corner_count, too_short, over_limit, corner_outside, shade_outside, outside_at, some_corner_outside, out_of_range, checked}
 use Rattle.arguments.specs.Shades.{shade_of, stands, any_shade, shade_at, shades_of, PairedShades}
 use Rattle.arguments.specs.Accepted.{Known}
@@ -84,10 +86,11 @@ module _ (l l' : Lent) (settings : Settings) (pass : Pass) (paired : PairedCorne
 
   -- and no sheet names a corner that is not given, or one at two places
   pub checked_paired : length l'.sheet ≡ length l.sheet → l'.queue ≡ l.queue → l'.attached ≡ l.attached
+      → box_differs l'.around l'.sheet ≡ box_differs l.around l.sheet
       → Known (corner_count l) l.sheet → OneCell l.sheet → Known (corner_count l') l'.sheet → OneCell l'.sheet
       → checked l' settings pass ≡ checked l settings pass
   unfolding checked over_limit out_of_range
-  checked_paired s q a k o k' o' = go (too_short l pass) refl
+  checked_paired s q a box k o k' o' = go (too_short l pass) refl
     where
       short : too_short l' pass ≡ too_short l pass
       short = short_paired s q a
@@ -95,10 +98,16 @@ module _ (l l' : Lent) (settings : Settings) (pass : Pass) (paired : PairedCorne
       go : (t : Bool) → too_short l pass ≡ t → checked l' settings pass ≡ checked l settings pass
       go true e = sym (refused_7 l' settings pass (short ∙ e)) ∙ refused_7 l settings pass e
       go false e =
-          rw (short, not_unknown _ _ k, not_doubled _ o, not_unknown _ _ k', not_doubled _ o', outside_paired (long_enough l pass e).shades_long, paired.same_xs) refl
+          rw (short, box, not_unknown _ _ k, not_doubled _ o, not_unknown _ _ k', not_doubled _ o', outside_paired (long_enough l pass e).shades_long, paired.same_xs) refl
 
-  -- the same where the sheets are paired, and the first names given corners only, each at one place
-  pub checked_alike : PairedSheets paired.pairs l.sheet l'.sheet → l'.queue ≡ l.queue → l'.attached ≡ l.attached
+  -- the box differs in both calls or in neither
+  differs_paired : PairedSheets paired.pairs l.sheet l'.sheet → l'.around ≡ l.around → box_differs l'.around l'.sheet ≡ box_differs l.around l.sheet
+  unfolding box_differs
+  differs_paired sheets around = rw (around, paired_box sheets) refl
+
+  -- the same where the sheets are paired, the boxes equal, and the first sheet names given corners only, each at one place
+  pub checked_alike : PairedSheets paired.pairs l.sheet l'.sheet → l'.around ≡ l.around → l'.queue ≡ l.queue → l'.attached ≡ l.attached
       → Known (corner_count l) l.sheet → OneCell l.sheet → checked l' settings pass ≡ checked l settings pass
-  checked_alike sheets q a k o =
-      checked_paired sheets.same_length q a k o (rw paired.same_xs (known_paired paired.pairs sheets k)) (one_cell_paired paired.pairs sheets k o)
+  checked_alike sheets around q a k o =
+      checked_paired sheets.same_length q a (differs_paired sheets around) k o (rw paired.same_xs (known_paired paired.pairs sheets k))
+      (one_cell_paired paired.pairs sheets k o)

@@ -130,7 +130,7 @@ unfolding unknown_corner unknown_at unknown
 unknown_walked n sheet = written_any sheet (holds_unknown n) (λ p. ap (unknown n) (blank_label refl))
 
 -- whether one of these words names a corner that was seen, or that one before it names
-pub twice : List Bool → List (ℕ × ℕ) → Bool
+unfoldable pub twice : List Bool → List (ℕ × ℕ) → Bool
 twice seen [] = false
 twice seen (e ∷ es) = seen_before seen (label_of e.1) || twice (noted seen (label_of e.1)) es
 

@@ -7,6 +7,8 @@ use Rattle.binary32.specs.declared.ranges.Quantity.{Quantity}
 use Rattle.sheet.specs.Words.{label_of}
 use Rattle.sheet.specs.Corners.{corner_of, AllListed, Given}
 use Rattle.sheet.specs.declared.Corner.{Corner}
+use Rattle.labels.specs.Box.{box_of}
+use Rattle.labels.specs.Kept.{around_of}
 use Rattle.labels.specs.Used.{OneCell}
 use Rattle.predict.specs.declared.Vector.{Vector}
 use Rattle.arguments.specs.Arguments.{Lent, corner_count, queue_needed}
@@ -55,10 +57,16 @@ PassInside (Pass.Grow p) = GrowInside p
 PassInside (Pass.Fill p) = FillInside p
 PassInside (Pass.Local p) = LocalInside p
 
+-- ---- the label box
+
+-- the box that is handed with a sheet is what a search of the sheet finds
+abbrev pub BoxRight : Lent → Type 0
+BoxRight l = around_of l.around ≡ box_of l.sheet
+
 -- ---- a call that is not refused
 
--- the buffers are long enough, the corners at most 1,024, all numbers in their ranges, those of the shades too, and the sheet names given
--- corners only, each at one place
+-- the buffers are long enough, the corners at most 1,024, all numbers in their ranges, those of the shades too, the kept box is what a search of the
+-- sheet finds, and the sheet names given corners only, each at one place
 pub record Accepted (l : Lent) (settings : Settings) (pass : Pass) : Type 0 where
   pub queue_long : queue_needed pass (corner_count l) ≤ l.queue
   pub attached_long : corner_count l ≤ l.attached
@@ -68,6 +76,7 @@ pub record Accepted (l : Lent) (settings : Settings) (pass : Pass) : Type 0 wher
   pub shades_inside : (k : ℕ) → k < corner_count l → get_or l.shades k 0 ≤ 2
   pub settings_inside : SettingsInside settings
   pub pass_inside : PassInside pass
+  pub box_right : BoxRight l
   pub listed : AllListed l.corners
   pub given : Given (corner_count l) l.sheet
   pub one_cell : OneCell l.sheet

@@ -9,7 +9,9 @@ use Rattle.sheet.specs.Words.{label_of}
 use Rattle.sheet.specs.Corners.{CornerLists, corner_lists, corner_of}
 use Rattle.sheet.specs.declared.Corner.{Corner}
 use Rattle.labels.specs.Labelled.{any_below}
+use Rattle.labels.specs.Kept.{box_differs}
 use Rattle.labels.specs.Used.{names}
+use Rattle.labels.specs.declared.kept.KeptBox.{KeptBox}
 use Rattle.predict.specs.declared.Vector.{Vector}
 use Rattle.arguments.specs.declared.GrowParams.{GrowParams}
 use Rattle.arguments.specs.declared.FillParams.{FillParams}
@@ -17,17 +19,18 @@ use Rattle.arguments.specs.declared.LocalExtensionParams.{LocalExtensionParams}
 use Rattle.arguments.specs.declared.Pass.{Pass}
 use Rattle.arguments.specs.declared.Settings.{Settings}
 
--- what a call is lent: the corners, their shades, the sheet, and the lengths of the queue and the attached list
+-- what a call is lent: the corners, their shades, the sheet, its label box as it is kept, and the lengths of the queue and the attached list
 pub record Lent : Type 0 where
   pub corners : CornerLists
   pub shades : List ℕ
   pub sheet : List ℕ
+  pub around : KeptBox
   pub queue : ℕ
   pub attached : ℕ
 
-abbrev pub lent : List Float → List Float → List Float → List ℕ → List ℕ → ℕ → ℕ → Lent
-lent xs ys pitches shades sheet queue attached =
-    record { corners = corner_lists xs ys pitches; shades = shades; sheet = sheet; queue = queue; attached = attached }
+abbrev pub lent : List Float → List Float → List Float → List ℕ → List ℕ → KeptBox → ℕ → ℕ → Lent
+lent xs ys pitches shades sheet around queue attached =
+    record { corners = corner_lists xs ys pitches; shades = shades; sheet = sheet; around = around; queue = queue; attached = attached }
 
 -- the number of corners, n below: as many as there are xs
 abbrev pub corner_count : Lent → ℕ
@@ -120,9 +123,13 @@ pass_outside (Pass.Grow p) = grow_outside p
 pass_outside (Pass.Fill p) = fill_outside p
 pass_outside (Pass.Local p) = local_outside p
 
--- any number of the call out of range
+-- any number of the call out of range, or, "a library call handed a sheet and a box that differs from it gets 3" (document 02, 5/14)
 unfoldable pub out_of_range : Lent → Settings → Pass → Bool
-out_of_range l settings pass = some_corner_outside l.corners l.shades || (settings_outside settings || pass_outside pass)
+out_of_range l settings pass =
+    some_corner_outside l.corners l.shades
+    || (settings_outside settings
+    || (pass_outside pass
+    || box_differs l.around l.sheet))
 
 -- ---- 5, stranger: "label's corner not given"
 

@@ -3,14 +3,16 @@
 
 #![tactic(auto)]
 
-ghost use Rattle.std.specs.Prelude.{◌≡◌, ◌≤◌, ltb, length};
-ghost use Rattle.sizes.specs.Sizes.{place_count};
+ghost use Rattle.std.specs.Prelude.{◌≡◌, ◌<◌, ◌≤◌, ltb, length};
+ghost use Rattle.sizes.specs.Sizes.{place_count, corner_limit};
 ghost use Rattle.sheet.specs.Corners.{corner_of, corner_in, corners_in};
+ghost use Rattle.labels.specs.declared.kept.KeptBox.{KeptBox};
 ghost use Rattle.arguments.specs.Shades.{any_shade, corners_of};
 ghost use Rattle.arguments.specs.Arguments.{lent, queue_needed, too_short, outside, corner_outside, some_corner_outside, axis_outside, settings_outside, grow_outside, fill_outside, local_outside, pass_outside, unknown, unknown_corner, doubled_corner, checked};
-ghost use Rattle.arguments.specs.Asked.{lists_of, HasCorner, AllShaded, Holdable, HasEntry, HasEntries, Noted, Unseen};
+ghost use Rattle.arguments.specs.Asked.{lists_of, HasCorner, AllShaded, Holdable, HasEntry, HasEntries, Noted, Unseen, Searchable, FoundOn};
 
 use binary32::ranges::Quantity;
+use labels::{Bounds, KeptBox};
 use predict::{Grid, Vector};
 use refusal::Refusal;
 use sheet::{Corner, CornerArrays, CornerCount, Position, Written};
@@ -108,8 +110,8 @@ impl LentCorners<'_> {
     // 7: whether a lent buffer is too short.
     #[tactic(auto, unfolding(crate::specs::Arguments::too_short))]
     fn too_short(&self, sheet: &[u16], queue: usize, attached: usize, pass: Pass) -> bool
-        ensures { result ≡ too_short (lent self.now.xs.now self.now.ys.now self.now.pitches.now self.now.shades.now sheet.now
-            queue attached) pass }
+        ensures { (around : KeptBox) → result ≡ too_short (lent self.now.xs.now self.now.ys.now self.now.pitches.now
+            self.now.shades.now sheet.now around queue attached) pass }
     {
         self.ys.len() < self.xs.len()
             || self.pitches.len() < self.xs.len()
@@ -270,6 +272,47 @@ fn seen_twice(sheet: &[u16], seen: &mut [bool; CORNERS]) -> bool
     false
 }
 
+// What one walk over a sheet finds: its label box, whether it names a corner from n on, and whether a corner below n stands on two places.
+#[derive(Clone, Copy, Default)]
+pub struct SheetFound {
+    around: Option<Bounds>,
+    unknown: bool,
+    doubled: bool,
+}
+
+impl SheetFound {
+    ghost use Rattle.arguments.specs.Asked.{LookedAt};
+
+    // One place with its word more: what it holds is noted.
+    fn look_at(&mut self, seen: &mut [bool; CORNERS], n: usize, place_and_word: (usize, u16))
+        requires { (place_and_word.0 < place_count) × (n ≤ corner_limit) }
+        ensures { LookedAt n place_and_word self.old seen.old self.new seen.new }
+    {
+        let (place, word) = place_and_word;
+        if let Some(k) = sheet::label_of(word) {
+            self.around = labels::widen(self.around, sheet::cell_of(place));
+            if k < n {
+                self.doubled |= note(seen, Some(k));
+            } else {
+                self.unknown = true;
+            }
+        }
+    }
+}
+
+// Looks once at all places of a sheet.
+fn search_sheet(n: usize, sheet: &[u16]) -> SheetFound
+    requires { Searchable n sheet.now }
+    ensures { FoundOn n sheet.now result }
+{
+    let mut found = SheetFound::default();
+    let mut seen = [false; CORNERS];
+    for place_and_word in Written::new(sheet) {
+        found.look_at(&mut seen, n, place_and_word);
+    }
+    found
+}
+
 // 6: whether a corner stands on two places of the sheet.
 pub fn doubled_corner(sheet: &[u16]) -> bool
     requires { HasEntries sheet.now }
@@ -279,18 +322,19 @@ pub fn doubled_corner(sheet: &[u16]) -> bool
     seen_twice(sheet, &mut seen)
 }
 
-// Whether a call with these arguments is refused, and why: 7, 2, 3, 5 and 6 are tried in this order. The queue and the
-// attached list are given by their lengths.
+// Whether a call with these arguments is refused, and why: 7, 2, 3, 5 and 6 are tried in this order; a box that differs from the sheet is 3. The
+// queue and the attached list are given by their lengths.
 pub fn check_arguments(
     corners: LentCorners,
     sheet: &[u16],
+    around: KeptBox,
     queue: usize,
     attached: usize,
     settings: Settings,
     pass: Pass,
 ) -> Result<(), Refusal>
     ensures { result ≡ checked (lent corners.entry.xs.now corners.entry.ys.now corners.entry.pitches.now corners.entry.shades.now
-        sheet.now queue attached) settings pass }
+        sheet.now around queue attached) settings pass }
 {
     if corners.too_short(sheet, queue, attached, pass) {
         return Err(Refusal::BufferTooShort);
@@ -301,10 +345,14 @@ pub fn check_arguments(
     if corners.some_corner_outside() || settings_outside(settings) || pass_outside(pass) {
         return Err(Refusal::OutOfRange);
     }
-    if unknown_corner(corners.xs.len(), sheet) {
+    let found = search_sheet(corners.xs.len(), sheet);
+    if !around.is(found.around) {
+        return Err(Refusal::OutOfRange);
+    }
+    if found.unknown {
         return Err(Refusal::UnknownCorner);
     }
-    if doubled_corner(sheet) {
+    if found.doubled {
         return Err(Refusal::Duplicate);
     }
     Ok(())

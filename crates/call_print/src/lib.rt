@@ -5,6 +5,7 @@
 
 use arguments::Pass;
 use call_text::Told;
+use labels::KeptBox;
 use passes::{Counts, FillStats, GrowStats, LocalStats, PassStats};
 use refusal::Refusal;
 use std::num::f32_to_bits_with_nan;
@@ -69,7 +70,7 @@ fn print_places<F: Fn(u16) -> bool>(
     Ok(())
 }
 
-pub fn print_sheet(rt: &impl Print, sheet: &[u16]) -> io::Result<()> {
+fn print_sheet(rt: &impl Print, sheet: &[u16]) -> io::Result<()> {
     print_labelled(rt, sheet)?;
     print_places(rt, "hole", sheet::is_hole, sheet)?;
     print_places(rt, "ambiguous", sheet::is_ambiguous, sheet)
@@ -137,6 +138,14 @@ fn print_local(rt: &impl Print, stats: LocalStats) -> io::Result<()> {
     print_unmatched(rt, stats.unmatched)
 }
 
+// A box: mark (1 for an empty one, 0 for any other), low i, high i, low j, high j.
+fn print_box(rt: &impl Print, kept: KeptBox) -> io::Result<()> {
+    let mark = u8::from(kept.empty);
+    let bounds = kept.bounds;
+    print!(rt; "box {mark} {} {}", bounds.low_i, bounds.high_i)?;
+    println!(rt; " {} {}", bounds.low_j, bounds.high_j)
+}
+
 // How many cells grow visited: each is counted once, and there are at most four a corner (`AllVisited` of crate passes), so that no sum is cut off.
 fn visited_by(counts: Counts) -> usize {
     counts
@@ -165,6 +174,8 @@ fn print_sum(rt: &impl Print, name: &str, list: &[u16]) -> io::Result<()> {
 #[derive(Clone, Copy)]
 pub struct Left<'a> {
     pub told: Told,
+    // whether the box that the call answers is printed as well
+    pub boxes: bool,
     pub sheet: &'a [u16],
     pub queue: &'a [u16],
     pub attached: &'a [u16],
@@ -191,37 +202,61 @@ impl Left<'_> {
         Ok(())
     }
 
-    // What a call answers, and the cells that it attached.
-    pub fn print_answer(
-        self,
-        rt: &impl Print,
-        answer: Result<PassStats, Refusal>,
-    ) -> io::Result<()> {
-        match answer {
-            Err(refusal) => print_refused(rt, refusal),
-            Ok(PassStats::Grow(stats)) => {
+    // What an accepted call says, and the cells that it attached.
+    fn print_stats(self, rt: &impl Print, stats: PassStats) -> io::Result<()> {
+        match stats {
+            PassStats::Grow(stats) => {
                 print_grow(rt, stats)?;
                 self.print_queue(rt, stats.counts)?;
                 self.print_attached(rt, stats.counts.attached)
             }
-            Ok(PassStats::Fill(stats)) => {
+            PassStats::Fill(stats) => {
                 print_fill(rt, stats)?;
                 self.print_attached(rt, stats.added)
             }
-            Ok(PassStats::Local(stats)) => {
+            PassStats::Local(stats) => {
                 print_local(rt, stats)?;
                 self.print_attached(rt, stats.counts.attached)
             }
         }
     }
 
+    // What a call answers, the cells that it attached, and the answered box where boxes are asked for.
+    fn print_answer(
+        self,
+        rt: &impl Print,
+        answer: Result<(PassStats, KeptBox), Refusal>,
+    ) -> io::Result<()> {
+        match answer {
+            Err(refusal) => print_refused(rt, refusal),
+            Ok((stats, kept)) => {
+                self.print_stats(rt, stats)?;
+                if self.boxes {
+                    print_box(rt, kept)?;
+                }
+                Ok(())
+            }
+        }
+    }
+
     // Where they are asked for: sums over the whole queue and the whole attached list, so that it is seen what a call left in them.
-    pub fn print_sums(self, rt: &impl Print) -> io::Result<()> {
+    fn print_sums(self, rt: &impl Print) -> io::Result<()> {
         if self.told != Told::Sums {
             return Ok(());
         }
         print_sum(rt, "queue", self.queue)?;
         print_sum(rt, "list", self.attached)
+    }
+
+    // What a call answers, the whole sheet after it, and the sums.
+    pub fn print(
+        self,
+        rt: &impl Print,
+        answer: Result<(PassStats, KeptBox), Refusal>,
+    ) -> io::Result<()> {
+        self.print_answer(rt, answer)?;
+        print_sheet(rt, self.sheet)?;
+        self.print_sums(rt)
     }
 }
 

@@ -6,6 +6,7 @@ ghost use Rattle.std.specs.Prelude.{◌≡◌, ◌≤◌, ◌<◌, length};
 ghost use Rattle.sizes.specs.Sizes.{place_count};
 
 use arguments::{FillParams, GrowParams, LocalExtensionParams, Pass, Settings};
+use labels::{Bounds, KeptBox};
 use predict::{Grid, Vector};
 use sizes::PLACES;
 use std::num::f32_from_bits_with_nan;
@@ -18,11 +19,21 @@ fn text_from(text: &[u8], k: usize) -> Option<&[u8]> {
     if k <= 7280 { text.get(9 * k..) } else { None }
 }
 
-// The k-th number of the text, counted from 0, and 0 where there is none.
-pub fn number_at(text: &[u8], k: usize) -> usize {
+// The 32 bits of the text's k-th number, counted from 0, and 0 where there is none.
+fn bits_at(text: &[u8], k: usize) -> u32 {
     text_from(text, k)
         .and_then(binary32::hex::read_bits)
-        .unwrap_or(0) as usize
+        .unwrap_or(0)
+}
+
+// The k-th number of the text.
+pub fn number_at(text: &[u8], k: usize) -> usize {
+    bits_at(text, k) as usize
+}
+
+// The k-th number of the text, which is signed: 32 bits in two's complement.
+fn signed_at(text: &[u8], k: usize) -> i32 {
+    bits_at(text, k).cast_signed()
 }
 
 // The k-th float of the text.
@@ -105,7 +116,7 @@ fn vector_at(text: &[u8], k: usize) -> Vector
 
 // Cell, the four axis parts, band.
 pub fn settings_at(text: &[u8], k: usize) -> Settings
-    requires { k ≤ 9100 }
+    requires { k ≤ 9300 }
 {
     let axis_i = vector_at(text, k + 1);
     let axis_j = vector_at(text, k + 3);
@@ -130,7 +141,7 @@ fn rounds_at(text: &[u8], k: usize) -> u32 {
 // The pass of a call: kind 0 is grow, 1 fill, and any other local.
 // Stays: the kinds are numbers of the text; `frame_passes` makes a pass of words, where the rounds have a place of their own (d).
 pub fn pass_at(text: &[u8], at: usize) -> Pass
-    requires { at ≤ 9000 }
+    requires { at ≤ 9160 }
 {
     let search = float_at(text, at + 7);
     let factor = float_at(text, at + 8);
@@ -167,7 +178,7 @@ pub struct Lengths {
 }
 
 pub fn lengths_at(text: &[u8], k: usize) -> Lengths
-    requires { k ≤ 9100 }
+    requires { k ≤ 9300 }
 {
     Lengths {
         ys: number_at(text, k),
@@ -176,6 +187,38 @@ pub fn lengths_at(text: &[u8], k: usize) -> Lengths
         queue: number_at(text, k + 3),
         attached: number_at(text, k + 4),
         shades: number_at(text, k + 5),
+    }
+}
+
+// The box that a call is handed: the one that the last call left, of the first call what a search of the sheet finds; or any other.
+#[derive(Clone, Copy)]
+pub enum Handed {
+    AsLeft,
+    Other(KeptBox),
+}
+
+// A box: mark, low i, high i, low j, high j. A mark other than 0 is an empty box here, so that each number is a mark.
+fn box_at(text: &[u8], k: usize) -> KeptBox
+    requires { k ≤ 9500 }
+{
+    KeptBox {
+        empty: number_at(text, k) != 0,
+        bounds: Bounds {
+            low_i: signed_at(text, k + 1),
+            high_i: signed_at(text, k + 2),
+            low_j: signed_at(text, k + 3),
+            high_j: signed_at(text, k + 4),
+        },
+    }
+}
+
+// A box that a call is handed: 0 for the one behind this number, any other number for the one that the last call left.
+fn handed_at(text: &[u8], k: usize) -> Handed
+    requires { k ≤ 9300 }
+{
+    match number_at(text, k) {
+        0 => Handed::Other(box_at(text, k + 1)),
+        _ => Handed::AsLeft,
     }
 }
 
@@ -191,11 +234,16 @@ pub enum Told {
 
 // What a list asks to be printed, by its number 3.
 fn told_at(text: &[u8]) -> Told {
-    match number_at(text, 3) {
+    match number_at(text, 3) % 4 {
         0 => Told::Answers,
         2 => Told::Sums,
         _ => Told::Visited,
     }
+}
+
+// Whether the calls of a list say which box they are handed: its number 3 is 4 more then.
+fn has_boxes(text: &[u8]) -> bool {
+    number_at(text, 3) / 4 % 2 == 1
 }
 
 // How many corners, labels and calls a list has, and what is printed of its calls.
@@ -205,30 +253,51 @@ pub struct Header {
     pub labels: usize,
     pub count: usize,
     pub told: Told,
-    // the number at which its calls begin, and how many numbers it has
+    // whether its calls say which box they are handed, and the boxes that they answer are printed
+    pub boxes: bool,
+    // the number at which its calls begin
     pub first: usize,
-    pub all: usize,
+}
+
+impl Header {
+    // The number at which call i begins. A call has 18 numbers, and six more where it says which box it is handed.
+    pub fn call_at(self, i: usize) -> usize
+        requires { (self.first ≤ 8200) × (i ≤ 40) }
+        ensures { (4 ≤ self.first → 4 ≤ result) × (result ≤ 9160) }
+    {
+        self.first + if self.boxes { 24 * i } else { 18 * i }
+    }
+
+    // The box that the call which begins at number `at` is handed.
+    pub fn handed(self, text: &[u8], at: usize) -> Handed
+        requires { at ≤ 9160 }
+    {
+        if self.boxes {
+            handed_at(text, at + 18)
+        } else {
+            Handed::AsLeft
+        }
+    }
 }
 
 pub fn header_at(text: &[u8]) -> Header
-    ensures { (result.n ≤ 1025) × (result.labels ≤ 2048) × (result.count ≤ 40) × (result.first ≤ 8200) × (4 ≤ result.all) × (result.all ≤ 9000) }
+    ensures { (result.n ≤ 1025) × (result.labels ≤ 2048) × (result.count ≤ 40) × (4 ≤ result.first) × (result.first ≤ 8200) }
 {
     let n = number_at(text, 0).min(1025);
     let labels = number_at(text, 1).min(2048);
     let count = number_at(text, 2).min(40);
-    let first = 4 + 4 * n + 2 * labels;
     Header {
         n,
         labels,
         count,
         told: told_at(text),
-        first,
-        all: first + 18 * count,
+        boxes: has_boxes(text),
+        first: 4 + 4 * n + 2 * labels,
     }
 }
 
 // Whether a call of the list is of none of the three kinds.
 pub fn has_unknown_kind(text: &[u8]) -> bool {
     let h = header_at(text);
-    (0..h.count).any(|i| 2 < number_at(text, h.first + 18 * i))
+    (0..h.count).any(|i| 2 < number_at(text, h.call_at(i)))
 }

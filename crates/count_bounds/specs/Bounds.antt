@@ -10,10 +10,9 @@ use Rattle.passes.specs.declared.Counts.{Counts}
 use Rattle.passes.specs.declared.GrowStats.{GrowStats}
 use Rattle.passes.specs.declared.FillStats.{FillStats}
 use Rattle.passes.specs.declared.LocalStats.{LocalStats}
-use Rattle.passes.specs.Step.{lent_of}
 use Rattle.passes.specs.Run.{Call}
 use Rattle.passes.specs.declared.PassStats.{PassStats}
-use Rattle.invariants.specs.Calls.{after_call}
+use Rattle.invariants.specs.Calls.{lent_call, after_call}
 
 -- no count is above m
 pub record FewCounts (m : ℕ) (c : Counts) : Type 0 where
@@ -47,5 +46,5 @@ pub data Small : PassStats → Type 0 where
 -- so it is for every call that is not refused
 abbrev pub SmallAnswers : Type 0
 SmallAnswers =
-    (l : CornerLists) (sheet : List ℕ) (c : Call) → Accepted (lent_of l c.shades sheet c.rooms) c.settings c.pass
+    (l : CornerLists) (sheet : List ℕ) (c : Call) → Accepted (lent_call l sheet c) c.settings c.pass
     → Small (after_call l sheet c).answer

@@ -1,7 +1,6 @@
 -- The rounds of fill, one after the other, and the whole call: refused, or all rounds done. Assumes nothing.
 use Rattle.std.specs.Prelude.{Ok, Err}
 use mathlib.Core.Path.{◌≡◌, refl, sym, ap, ◌∙◌, subst}
-use mathlib.Core.Bool.{Bool}
 use mathlib.Core.List.{List}
 use Prim.Native.Nat.{ℕ, ◌+◌, ◌<◌, ◌≤◌}
 use native.Mathlib.Omega.{arith}
@@ -9,6 +8,8 @@ use lib.ListN.{length}
 use Rattle.sheet.specs.Corners.{Corners, CornerLists}
 use Rattle.refusal.specs.declared.Refusal.{Refusal}
 use Rattle.labels.specs.Labelled.{label_count}
+use Rattle.labels.specs.Kept.{kept_of}
+use Rattle.labels.specs.declared.kept.KeptBox.{KeptBox}
 use Rattle.arguments.specs.Shades.{corners_of}
 use Rattle.arguments.specs.Arguments.{Checked, checked}
 use Rattle.arguments.specs.Accepted.{Accepted}
@@ -85,33 +86,33 @@ module _ (limit : ℕ) (f : Filling) where
 
 -- ---- the pass
 
-module _ (corners : CornerLists) (shades sheet list : List ℕ) (set : Settings) (p : FillParams) where
+module _ (corners : CornerLists) (shades sheet : List ℕ) (around : KeptBox) (list : List ℕ) (set : Settings) (p : FillParams) where
   -- all rounds done
   pub pass_done : {before after : Filling} → held before ≡ corners_of corners shades → before.setup.settings ≡ set → before.setup.params ≡ p → before.sheet.now ≡ sheet → before.attached.now ≡ list → before.made ≡ 0
       → {limit rounds : ℕ} → limit ≡ fill_limit (label_count sheet) p.max_iters → RoundsLeft before after rounds (fill_from (held before) before.setup.settings before.setup.params limit (start_of before))
-      → {stats : FillStats} → stats ≡ stats_of after rounds → {s l : List ℕ} → s ≡ after.sheet.now → l ≡ after.attached.now
-      → fill_out (Ok stats) s l ≡ fill_leaves (done (fill_after (corners_of corners shades) set p sheet)) sheet list
+      → {stats : FillStats} → stats ≡ stats_of after rounds → {kept : KeptBox} → kept ≡ kept_of after.around → {s l : List ℕ} → s ≡ after.sheet.now → l ≡ after.attached.now
+      → fill_out (Ok (stats, kept)) s l ≡ fill_leaves (done (fill_after (corners_of corners shades) set p sheet)) sheet list
   unfolding fill_after fill_run
-  pass_done {before} {after} cs e m sh li z {limit} {rounds} lim l st es el =
+  pass_done {before} {after} cs e m sh li z {limit} {rounds} lim l st k es el =
       let run : fill_from (held before) before.setup.settings before.setup.params limit (start_of before) ≡ fill_run (corners_of corners shades) set p sheet = rw (cs, e, m, sh, li, z, lim) in
-      rw (st, es, el, l.rounds_are, l.left.made_is, l.left.sheet_is, l.left.list_is, run, li)
+      rw (st, k, after.around_is, es, el, l.rounds_are, l.left.made_is, l.left.sheet_is, l.left.list_is, run, li)
 
   -- ---- the call
 
   -- what it promises of its answer and its buffers, and of what the answer says
   abbrev pub Promised : FillOut → Type 0
   Promised out =
-      let o = fill_step corners shades sheet set p (rooms 0 (length list)) in
+      let o = fill_step corners shades sheet around set p (rooms 0 (length list)) in
       (out ≡ fill_leaves o sheet list) × (fill_said out.answer ≡ outcome_due fill_values o)
 
-  promised : {out : FillOut} → out ≡ fill_leaves (fill_step corners shades sheet set p (rooms 0 (length list))) sheet list → Promised out
+  promised : {out : FillOut} → out ≡ fill_leaves (fill_step corners shades sheet around set p (rooms 0 (length list))) sheet list → Promised out
   promised e = (e, fill_said_lem _ sheet list _ e)
 
   -- its check refuses it, or lets it pass
-  module _ (check : Checked) (is : check ≡ checked (lent_of corners shades sheet (rooms 0 (length list))) set (Pass.Fill p)) where
+  module _ (check : Checked) (is : check ≡ checked (lent_of corners shades sheet around (rooms 0 (length list))) set (Pass.Fill p)) where
     leaves_refused : (r : Refusal) → check ≡ Err r
         → fill_out (Err r) sheet list
-        ≡ fill_leaves (fill_step corners shades sheet set p (rooms 0 (length list))) sheet list
+        ≡ fill_leaves (fill_step corners shades sheet around set p (rooms 0 (length list))) sheet list
     unfolding fill_step
     leaves_refused r e = rw (← is, e)
 
@@ -119,10 +120,10 @@ module _ (corners : CornerLists) (shades sheet list : List ℕ) (set : Settings)
     call_refused r e = promised (leaves_refused r e)
 
     module _ (e : check ≡ Ok tt) where
-      pub call_accepted : Accepted (lent_of corners shades sheet (rooms 0 (length list))) set (Pass.Fill p)
-      call_accepted = accepted (lent_of corners shades sheet (rooms 0 (length list))) set (Pass.Fill p) (sym is ∙ e)
+      pub call_accepted : Accepted (lent_of corners shades sheet around (rooms 0 (length list))) set (Pass.Fill p)
+      call_accepted = accepted (lent_of corners shades sheet around (rooms 0 (length list))) set (Pass.Fill p) (sym is ∙ e)
 
-      leaves_done : (out : FillOut) → out ≡ fill_leaves (done (fill_after (corners_of corners shades) set p sheet)) sheet list → out ≡ fill_leaves (fill_step corners shades sheet set p (rooms 0 (length list))) sheet list
+      leaves_done : (out : FillOut) → out ≡ fill_leaves (done (fill_after (corners_of corners shades) set p sheet)) sheet list → out ≡ fill_leaves (fill_step corners shades sheet around set p (rooms 0 (length list))) sheet list
       unfolding fill_step
       leaves_done out h = rw (← is, e) h
 

@@ -6,7 +6,6 @@ use Prim.Native.Nat.{ℕ, ◌+◌, ◌<◌, ◌≤◌}
 use native.Mathlib.Omega.{arith}
 use lib.ListN.{length, set, take, length-append}
 use lib.Seq.{length-take-le}
-use lib.Ieee.{Float}
 use Rattle.std.specs.Prelude.{Ok, Err}
 use Rattle.std.proofs.Common.{Bor, Option, Some, None}
 use Rattle.sheet.specs.Cells.{OnSheet, place_of}
@@ -16,8 +15,11 @@ use Rattle.sheet.specs.declared.Cell.{Cell}
 use Rattle.sheet.specs.declared.held.CornerArrays.{CornerArrays}
 use Rattle.sheet.specs.declared.Position.{Position}
 use Rattle.sheet.proofs.Corners.{given_attached}
+use Rattle.labels.specs.declared.Bounds.{Bounds}
 use Rattle.labels.specs.Labelled.{Attaching, label_count}
+use Rattle.labels.specs.Box.{widened, box_of}
 use Rattle.labels.specs.Used.{Tied, OneCell}
+use Rattle.labels.proofs.Box.{box_attached}
 use Rattle.labels.proofs.Labelled.{count_attached}
 use Rattle.labels.proofs.Used.{tied_attached, one_attached}
 use Rattle.predict.specs.Predict.{prediction_of}
@@ -139,6 +141,9 @@ module _ {f : Filling} {c : Cell} {k : ℕ} (t : Taking f c k) where
 
   pub one_more : OneCell (attached f.sheet.now c k)
   one_more = one_attached taking_attaching t.free f.one_cell
+
+  pub box_more : widened f.around c ≡ box_of (attached f.sheet.now c k)
+  box_more = ap (λ (b : Option Bounds). widened b c) f.around_is ∙ sym (box_attached taking_attaching)
 
   pub tied_more : Tied (attached f.sheet.now c k) (set f.used k true)
   tied_more = tied_attached taking_attaching (omega (arith, t.there, f.corners.now.count.few)) f.tied

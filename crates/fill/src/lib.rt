@@ -6,6 +6,7 @@
 ghost use Rattle.std.specs.Prelude.{◌≡◌, ◌≤◌, ◌&&◌, length, Ok};
 ghost use Rattle.sheet.specs.Corners.{Given, corner_lists};
 ghost use Rattle.labels.specs.Labelled.{label_count};
+ghost use Rattle.labels.specs.Box.{box_of};
 ghost use Rattle.labels.specs.Used.{OneCell, Tied};
 ghost use Rattle.arguments.specs.Shades.{corners_of};
 ghost use Rattle.arguments.specs.Asked.{lists_of};
@@ -18,7 +19,7 @@ ghost use Rattle.passes.specs.Said.{fill_values, fill_said, outcome_due};
 use arguments::{FillParams, LentCorners, Pass, Settings};
 use candidates::HeldCorners;
 use extension_common::{ChoiceRule, Search, Trial, TryCellResult};
-use labels::Bounds;
+use labels::{Bounds, KeptBox};
 use passes::FillStats;
 use refusal::Refusal;
 use sheet::{Cell, CornerArrays, NO_CORNERS};
@@ -73,18 +74,20 @@ impl FillSetup {
     }
 }
 
-// A pass: the corners, and how they are searched; the lent sheet; the lent list, the first `made` places of which are the cells that are new; and
-// which corners are used.
+// A pass: the corners, and how they are searched; the lent sheet, and its label box; the lent list, the first `made` places of which are the
+// cells that are new; and which corners are used.
 #[derive(Drop)]
 struct Filling<'a> {
     corners: &'a CornerArrays,
     setup: FillSetup,
     sheet: &'a mut [u16],
+    around: Option<Bounds>,
     attached: &'a mut [u16],
     used: [bool; CORNERS],
     made: usize,
     ghost given: { Given corners.now.count.number sheet.now },
     ghost one_cell: { OneCell sheet.now },
+    ghost around_is: { around ≡ box_of sheet.now },
     ghost tied: { Tied sheet.now used },
     ghost list_long: { corners.now.count.number ≤ length attached.now },
     ghost room: { made ≤ label_count sheet.now },
@@ -94,7 +97,6 @@ impl<'a> Filling<'a> {
     ghost use Rattle.std.specs.Prelude.{◌<◌};
     ghost use Rattle.sizes.specs.Sizes.{place_count};
     ghost use Rattle.sheet.specs.Cells.{OnSheet};
-    ghost use Rattle.labels.specs.Box.{box_of};
     ghost use Rattle.passes.specs.Fill.{fill_visit, fill_round, fill_from};
     ghost use Rattle.fill.specs.Filling.{held, state_of, found_at, Left, Trying, Taking, Wrote, looked_at, stats_of, start_of, RoundsLeft};
 
@@ -117,13 +119,14 @@ impl<'a> Filling<'a> {
         trial.try_predicted(setup.settings.grid)
     }
 
-    // Attaches a corner to a cell: the sheet, the next place of the attached list and the corner's entry are written.
+    // Attaches a corner to a cell: the sheet, the next place of the attached list and the corner's entry are written, and the kept box is widened.
     fn attach_corner(&mut self, c: Cell, k: usize)
         requires { Taking self.old c k }
         ensures { Wrote self.old self.new c k }
     {
         self.attached[self.made] = sheet::place_of(c) as u16;
         sheet::attach(self.sheet, c, k);
+        self.around = labels::widen(self.around, c);
         self.used[k] = true;
         self.made += 1;
     }
@@ -150,19 +153,12 @@ impl<'a> Filling<'a> {
         }
     }
 
-    // The label box of now.
-    fn label_box(&self) -> Option<Bounds>
-        ensures { result ≡ box_of self.now.sheet.now }
-    {
-        labels::label_box(self.sheet)
-    }
-
-    // One round: all cells of the region about the label box of now that are unlabelled, by i then j.
+    // One round: all cells that are unlabelled of the region about the label box of the round's start, by i then j.
     fn fill_round(&mut self)
         ensures { Left self.old self.new
             (fill_round (held self.old) self.old.setup.settings self.old.setup.params (state_of self.old)) }
     {
-        let around = self.label_box();
+        let around = self.around;
         let window = region::window_of(around, 1);
         for place in window.places() {
             self.fill_place(around, place);
@@ -197,15 +193,16 @@ impl<'a> Filling<'a> {
     }
 }
 
-// The pass itself, on arguments that are not refused: all rounds, and what the answer says of them.
+// The pass itself, on arguments that are not refused: all rounds, what the answer says of them, and the label box that they leave.
 fn fill_accepted(
     corners: LentCorners,
     sheet: &mut [u16],
+    around: KeptBox,
     attached: &mut [u16],
     settings: Settings,
     params: FillParams,
-) -> FillStats
-    requires { Accepted (lent_of (lists_of corners) corners.shades.now sheet.old (rooms 0 (length attached.old)))
+) -> (FillStats, KeptBox)
+    requires { Accepted (lent_of (lists_of corners) corners.shades.now sheet.old around (rooms 0 (length attached.old)))
         settings (Pass.Fill params) }
     ensures { fill_out (Ok result) sheet.new attached.new
         ≡ fill_leaves (done (fill_after (corners_of (lists_of corners.entry) corners.entry.shades.now)
@@ -219,18 +216,20 @@ fn fill_accepted(
         corners: &held,
         setup: FillSetup { settings, params },
         sheet,
+        around: around.around(),
         attached,
         used,
         made: 0,
     };
     let rounds = filling.fill_rounds(limit);
-    filling.stats(rounds)
+    (filling.stats(rounds), KeptBox::of(filling.around))
 }
 
 // Fills the sheet: each round walks, by i then j, the unlabelled cells of the label box and one strip along each whole side, and attaches a
-// corner of the cell's kind where one is found; a round that attaches nothing is the last. The attached list holds the new cells' places in order at its front,
-// its rest untouched; no mark changes. The answer has the number of new cells, the number of rounds, and the rim. A refused call changes
-// nothing and answers why. `said` is the same answer in 01's number or values.
+// corner of the cell's kind where one is found; a round that attaches nothing is the last. The attached list holds the new cells' places in
+// order at its front, its rest untouched; no mark changes. The answer has the number of new cells, the number of rounds, and the rim, and beside
+// them the label box of the sheet as it is left. A refused call changes nothing and answers why. `said` is the same answer in 01's number or
+// values.
 // Stays: the public calls of the passes lend slice by slice, as 01 has it and as the C interface does (a).
 pub fn fill_grid_holes(
     xs: &[f32],
@@ -238,15 +237,16 @@ pub fn fill_grid_holes(
     pitches: &[f32],
     shades: &[u8],
     sheet: &mut [u16],
+    around: KeptBox,
     attached: &mut [u16],
     settings: Settings,
     params: FillParams,
-) -> Result<FillStats, Refusal>
+) -> Result<(FillStats, KeptBox), Refusal>
     ensures attached_after { fill_out result sheet.new attached.new
         ≡ fill_leaves (fill_step (corner_lists xs.now ys.now pitches.now) shades.now sheet.old
-        settings params (rooms 0 (length attached.old))) sheet.old attached.old }
+        around settings params (rooms 0 (length attached.old))) sheet.old attached.old }
     ensures said { fill_said result ≡ outcome_due fill_values (fill_step (corner_lists xs.now ys.now pitches.now)
-        shades.now sheet.old settings params (rooms 0 (length attached.old))) }
+        shades.now sheet.old around settings params (rooms 0 (length attached.old))) }
 {
     let corners = LentCorners {
         xs,
@@ -257,10 +257,11 @@ pub fn fill_grid_holes(
     arguments::check_arguments(
         corners,
         sheet,
+        around,
         0,
         attached.len(),
         settings,
         Pass::Fill(params),
     )?;
-    Ok(fill_accepted(corners, sheet, attached, settings, params))
+    Ok(fill_accepted(corners, sheet, around, attached, settings, params))
 }

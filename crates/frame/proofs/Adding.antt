@@ -50,6 +50,7 @@ use Rattle.frame_check.proofs.Laws.{checks_alike, AllFine, fine_all}
 use Rattle.sizes.specs.Sizes.{corner_limit, pass_limit, place_count, all_pass_words}
 use Rattle.frame_state.specs.State.{patched_of, second_of, with_opening, label_to, shade_put, words_in, words_put, State, adds_as, adds, at_stage, nothing_said, state}
 use Rattle.frame_state.proofs.Laws.{many_room}
+use Rattle.frame_state.proofs.Around.{label_found, nothing_found}
 use Rattle.frame.specs.Frame.{outside_in, over_in, twice_in, Parts, some_of, doubled, open_labels, placed, shaded_before, checked_line, opened, adding, added, no_parts}
 use Rattle.frame.specs.Text.{Sound}
 use Rattle.frame.specs.Reading.{cell_taken, corner_taken, corner_shaded, HoldsUsed, CheckedLabels, HoldsLabels, HoldsSecond, HoldsShades, Holds, HoldsCorners, HoldsPasses, FrameHeld}
@@ -421,6 +422,7 @@ module _ (f : Parts) (s : State) (g : FrameHeld f s) (l : Line) (p : Proper l) (
         second = second_held n s.held.second_used g.second_used_long g.second (second_room n);
         shades = g.shades;
         passes = g.passes;
+        box = g.box;
       }
   label_in_lem false k stands n =
       record {
@@ -433,6 +435,7 @@ module _ (f : Parts) (s : State) (g : FrameHeld f s) (l : Line) (p : Proper l) (
         second = g.second;
         shades = g.shades;
         passes = g.passes;
+        box = label_found false (record { corner = k; cell = (label_line_of l.numbers).cell }) s (omega (arith, g.labels.sheet_long)) (record { on = n.on; entry = n.small }) g.box;
       }
 
   label_by : {x : HeldLabel} {k : ℕ} → x ≡ record { corner = k; cell = (label_line_of l.numbers).cell }
@@ -455,6 +458,7 @@ module _ (f : Parts) (s : State) (g : FrameHeld f s) (l : Line) (p : Proper l) (
         second = g.second;
         shades = g.shades;
         passes = g.passes;
+        box = g.box;
       }
   by_kind Kind.Corner e =
       let b = bits_held l p Kind.Corner e in
@@ -471,6 +475,7 @@ module _ (f : Parts) (s : State) (g : FrameHeld f s) (l : Line) (p : Proper l) (
         second = g.second;
         shades = g.shades;
         passes = g.passes;
+        box = g.box;
       }
   by_kind Kind.Label e =
       let few : length f.corners ≤ corner_limit = omega (arith, g.corners.count, g.corners.xs_held.some) in
@@ -494,6 +499,7 @@ module _ (f : Parts) (s : State) (g : FrameHeld f s) (l : Line) (p : Proper l) (
         second = g.second;
         shades = g.shades;
         passes = g.passes;
+        box = g.box;
       }
   by_kind Kind.Shade e =
       let few : length f.corners ≤ corner_limit = omega (arith, g.corners.count, g.corners.xs_held.some) in
@@ -514,6 +520,7 @@ module _ (f : Parts) (s : State) (g : FrameHeld f s) (l : Line) (p : Proper l) (
             subst (λ (x : HeldShade). HoldsShades (f.shades ++ (m ∷ [])) (shade_put x s.held.shades)) so
             (shade_held_lem g.shades m h.is_corner_holds (omega (arith, h.given, few)));
         passes = g.passes;
+        box = g.box;
       }
   by_kind (Kind.Pass k) e =
       let n = leb-false pass_limit (length f.passes) (room (Kind.Pass k) e) in
@@ -527,6 +534,7 @@ module _ (f : Parts) (s : State) (g : FrameHeld f s) (l : Line) (p : Proper l) (
         second = g.second;
         shades = g.shades;
         passes = pass_held g.passes (omega (arith, g.passes.count)) (pass_line_of k l.numbers) (words_in k (held_up_to 5 l.numbers)) (words_agree k e);
+        box = g.box;
       }
 
   pub line_held : FrameHeld (added f l) (adds (held_line l) s)
@@ -545,6 +553,7 @@ restaged f s stage g =
       second = g.second;
       shades = g.shades;
       passes = g.passes;
+      box = g.box;
     }
 
 -- ---- before the first line
@@ -603,4 +612,5 @@ nothing_read =
       second = no_second;
       shades = no_shades;
       passes = record { count = refl; words_held = holds_none all_pass_words 0 };
+      box = nothing_found;
     }

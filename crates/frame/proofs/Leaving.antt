@@ -10,6 +10,8 @@ use lib.ListN.{length, set, take, replicate}
 use lib.Dec.{ltb}
 use lib.IntN.{nat_abs}
 use Rattle.refusal.specs.Said.{number_and_line}
+use Rattle.labels.specs.Kept.{kept_of}
+use Rattle.labels.specs.declared.kept.KeptBox.{KeptBox}
 use Rattle.arguments.specs.Front.{over}
 use Rattle.arguments.proofs.Chains.{or_false_both}
 use Rattle.frame_line.specs.Lines.{ShadeLine}
@@ -19,7 +21,7 @@ use Rattle.frame_state.specs.State.{State}
 use Rattle.frame_state.specs.declared.Progress.{Progress}
 use Rattle.frame.specs.Reading.{Holds, FrameDone, ReadAs, held_as, LongEnough, taken}
 use Rattle.frame.specs.Frame.{Frame, parts_of, FrameRead, refused_at, accepted, read_frame}
-use Rattle.frame.specs.ReadFrame.{xs_of, ys_of, pitches_of, shaded, shades_of, settings_of, Buffers, left, too_short, leaves, read_into, unless_short}
+use Rattle.frame.specs.ReadFrame.{xs_of, ys_of, pitches_of, shaded, shades_of, sheet_of, settings_of, Buffers, left, too_short, leaves, read_into, unless_short}
 use Rattle.std.proofs.Common.{Ok}
 use Rattle.frame.specs.Said.{head_values, frame_said, line_values, read_due, frame_due}
 
@@ -75,10 +77,10 @@ module _ {f : FrameRead} {p : Progress} {a : Held} (w : Accepting f p a) where
       }
 
   -- an accepted frame is written
-  pub text_accepted : (b after : Buffers) → after ≡ taken p a b
-      → left (Ok (record { settings = p.settings; corners = p.corners; passes = p.passes })) after ≡ leaves f b
+  pub text_accepted : (b after : Buffers) → after ≡ taken p a b → (k : KeptBox) → k ≡ kept_of p.around
+      → left (Ok (record { settings = p.settings; corners = p.corners; passes = p.passes; around = k })) after ≡ leaves f b
   unfolding settings_of xs_of ys_of pitches_of
-  text_accepted b after e =
+  text_accepted b after e k d =
       let h = w.holds in
       let c = h.corners in
       rw (
@@ -93,6 +95,8 @@ module _ {f : FrameRead} {p : Progress} {a : Held} (w : Accepting f p a) where
         h.sheet_is,
         c.count,
         h.passes.count,
+        d,
+        h.around_is,
       )
       refl
 
@@ -115,7 +119,7 @@ long_enough b e =
     }
 
 read_said : (r : FrameRead) (b : Buffers) → frame_said (leaves r b).answer ≡ read_due r
-unfolding settings_of head_values frame_said line_values read_due
+unfolding settings_of sheet_of head_values frame_said line_values read_due
 read_said (refused_at r line) b = refl
 read_said (accepted f) b = refl
 

@@ -4,3 +4,4 @@ pub mod Adding
 pub mod Turn
 pub mod Leaving
 pub mod Mapped
+pub mod Around

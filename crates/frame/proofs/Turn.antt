@@ -12,6 +12,7 @@ use lib.ListN.{length, take, drop, length-append}
 use Rattle.refusal.specs.declared.Refusal.{Refusal}
 use Rattle.sheet.specs.Words.{empty_sheet}
 use Rattle.sheet.proofs.Words.{empty_length}
+use Rattle.labels.specs.Box.{box_of}
 use Rattle.labels.proofs.Count.{many_few}
 use Rattle.join.specs.Rule.{Placed}
 use Rattle.join.specs.Join.{Joined, apart, clash, off, union_of, joined}
@@ -34,7 +35,7 @@ use Rattle.frame_state.specs.State.{patched_of, second_of, nothing_said, State, 
 use Rattle.frame_state.specs.declared.Progress.{Progress}
 use Rattle.frame.specs.Frame.{Frame, Parts, added, parts_from, no_parts, parts_of, checked_line, placed, first_set, second_set, join_if, join_of, labels_in, given_of, patch_line, FrameRead, refused_at, Step, stopped, onward, step_by, step_with, step_line, finish_by, finish, at_end, going, read_lines}
 use Rattle.frame.specs.ReadFrame.{sheet_of}
-use Rattle.frame.specs.Reading.{on_sheet_of, joined_to, FrameHeld, Room, Went, went, held_by, held_step, Finishable, Finished, finished, finished_by, finish_on, FrameDone, ReadAs, refused_as, held_as}
+use Rattle.frame.specs.Reading.{on_sheet_of, boxed, joined_to, FrameHeld, Room, Went, went, held_by, held_step, Finishable, Finished, finished, finished_by, finish_on, FrameDone, ReadAs, refused_as, held_as}
 use Rattle.frame.specs.declared.FrameRefusal.{FrameRefusal}
 use Rattle.std.proofs.Common.{Result, min}
 use Rattle.std.specs.List.{IsFirstMatchOrLen}
@@ -133,22 +134,31 @@ module _ (f : Frame) (p : Progress) (a : Held) (g : FrameHeld (parts_of f) (stat
         second_few = g.second.few;
         few = g.corners.xs_held.some;
         labels_few = omega (arith, g.labels.uses.many, many_few (is_used a.used) corner_limit);
+        box = g.box;
       }
 
   -- the number of the patch line
   patch_is : 5 + p.corners + p.labels ≡ patch_line (parts_of f)
   patch_is = omega (arith, g.corners.count, g.labels.uses.count)
 
-  done : (sheet : List ℕ) → sheet ≡ sheet_of f → length sheet ≡ place_count → FrameDone f p (on_sheet_of a sheet)
+  done : (sheet : List ℕ) → sheet ≡ sheet_of f → length sheet ≡ place_count → FrameDone f (boxed p sheet) (on_sheet_of a sheet)
   done sheet e long =
-      record { settings_are = g.settings_are; corners = g.corners; sheet_is = e; sheet_long = long; shades = g.shades; passes = g.passes }
+      record {
+        settings_are = g.settings_are;
+        corners = g.corners;
+        sheet_is = e;
+        sheet_long = long;
+        shades = g.shades;
+        passes = g.passes;
+        around_is = ap box_of e;
+      }
 
   set_length : (u : List Placed) → length (labelled empty_sheet u) ≡ place_count
   set_length u = labelled_length u empty_sheet ∙ empty_length
 
   -- by what the join says
   by_join : (j : Joined) → join_of (parts_of f) ≡ j → (o : Finished) → o ≡ finished_by p (concluded a.sheet j)
-      → ReadAs (finish_by j f) o.answer (state p (on_sheet_of a o.sheet))
+      → ReadAs (finish_by j f) o.answer (joined_to (state p a) o.sheet)
   unfolding concluded sheet_of given_of
   by_join apart e o w = rw w (rw (← patch_is) (refused_as Refusal.NoSharedCorner _))
   by_join clash e o w = rw w (rw (← patch_is) (refused_as Refusal.PatchesClash _))
@@ -157,19 +167,19 @@ module _ (f : Frame) (p : Progress) (a : Held) (g : FrameHeld (parts_of f) (stat
 
   -- by whether the patch line stands
   by_patch : (t : Bool) → (parts_of f).patched ≡ t → (o : Finished) → o ≡ finish_on t p a.sheet (second_set (parts_of f))
-      → ReadAs (finish f) o.answer (state p (on_sheet_of a o.sheet))
+      → ReadAs (finish f) o.answer (joined_to (state p a) o.sheet)
   unfolding finish join_of sheet_of given_of
   by_patch false e o w =
       let is : join_of (parts_of f) ≡ union_of (first_set (parts_of f)) = ap (λ (t : Bool). join_if t (first_set (parts_of f)) (second_set (parts_of f))) e in
-      subst (λ (j : Joined). ReadAs (finish_by j f) o.answer (state p (on_sheet_of a o.sheet))) (sym is)
+      subst (λ (j : Joined). ReadAs (finish_by j f) o.answer (joined_to (state p a) o.sheet)) (sym is)
       (rw w (held_as f (done a.sheet (g.labels.sheet_is ∙ ap (λ (j : Joined). labelled empty_sheet (labels_in j)) (sym is)) g.labels.sheet_long)))
   by_patch true e o w =
       let is : join_of (parts_of f) ≡ joined (first_set (parts_of f)) (second_set (parts_of f)) = ap (λ (t : Bool). join_if t (first_set (parts_of f)) (second_set (parts_of f))) e in
-      subst (λ (j : Joined). ReadAs (finish_by j f) o.answer (state p (on_sheet_of a o.sheet))) (sym is)
+      subst (λ (j : Joined). ReadAs (finish_by j f) o.answer (joined_to (state p a) o.sheet)) (sym is)
       (by_join (joined (first_set (parts_of f)) (second_set (parts_of f))) is o (w ∙ ap (finished_by p) (joins_as first_held (second_set (parts_of f)))))
 
   finishes : (r : Result (Unit {0}) FrameRefusal) (sheet : List ℕ) → finished sheet r ≡ finish_on (patched_of p) p a.sheet (held_labels (take (second_of p) a.second))
-      → ReadAs (finish f) r (state p (on_sheet_of a sheet))
+      → ReadAs (finish f) r (joined_to (state p a) sheet)
   finishes r sheet w =
       by_patch (parts_of f).patched refl (finished sheet r)
       (w ∙ ap₂ (λ (t : Bool) (l : List Placed). finish_on t p a.sheet l) g.patched g.second.labels_are)

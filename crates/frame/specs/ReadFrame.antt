@@ -5,6 +5,7 @@ use Rattle.std.specs.Float.{binary32}
 use Rattle.std.specs.Float.Ieee.{of_bits}
 use Rattle.refusal.specs.declared.Refusal.{Refusal}
 use Rattle.sheet.specs.Words.{empty_sheet}
+use Rattle.labels.specs.Kept.{box_kept}
 use Rattle.join.specs.Sheets.{labelled}
 use Rattle.arguments.specs.declared.Pass.{Pass}
 use Rattle.arguments.specs.declared.Settings.{Settings}
@@ -145,7 +146,7 @@ abbrev pub leaves : FrameRead → Buffers → FrameOut
 leaves (refused_at r n) b = record { answer = Err (record { refusal = r; line = n }); buffers = b }
 leaves (accepted f) b =
     record {
-      answer = Ok (record { settings = settings_of f; corners = length (parts_of f).corners; passes = length (parts_of f).passes });
+      answer = Ok (record { settings = settings_of f; corners = length (parts_of f).corners; passes = length (parts_of f).passes; around = box_kept (sheet_of f) });
       buffers =
           record {
             xs = over (xs_of f) b.xs;

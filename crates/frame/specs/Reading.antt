@@ -5,6 +5,7 @@ use Rattle.refusal.specs.declared.Refusal.{Refusal}
 use Rattle.sheet.specs.Cells.{OnSheet, place_of, eq_z}
 use Rattle.sheet.specs.Words.{empty_sheet}
 use Rattle.sheet.specs.declared.Cell.{Cell}
+use Rattle.labels.specs.Box.{box_of}
 use Rattle.labels.specs.Count.{how_many}
 use Rattle.join.specs.Rule.{Placed, All}
 use Rattle.join.specs.Join.{same_cell}
@@ -19,7 +20,7 @@ use Rattle.join_sheet.specs.declared.SecondLabel.{SecondLabel}
 use Rattle.frame_check.specs.Checks.{is_set, is_used, has_place, checked_held}
 use Rattle.frame_check.specs.declared.Held.{Held}
 use Rattle.sizes.specs.Sizes.{corner_limit, place_count, pass_size, all_pass_words}
-use Rattle.frame_state.specs.State.{patched_of, second_of, Counted, at_stage, arrays, State, state, adds}
+use Rattle.frame_state.specs.State.{patched_of, second_of, Counted, at_stage, arrays, State, state, BoxFound, adds}
 use Rattle.frame_state.specs.declared.Progress.{Progress}
 use Rattle.frame.specs.Frame.{Frame, Parts, parts_of, some_of, placed, FrameRead, refused_at, accepted}
 use Rattle.frame.specs.Text.{Sound, Apart}
@@ -40,12 +41,24 @@ ys_in cs = map (λ c. float_of c.y) cs
 abbrev pub pitches_in : List CornerLine → List Float
 pitches_in cs = map (λ c. float_of c.pitch) cs
 
--- the same with another sheet
+-- the same with another sheet, and with its label box
 abbrev pub on_sheet_of : Held → List ℕ → Held
 on_sheet_of a sheet = arrays a.xs a.ys a.pitches a.shades sheet a.used a.second_used a.second a.passes
 
+abbrev pub boxed : Progress → List ℕ → Progress
+boxed p sheet =
+    record {
+      settings = p.settings;
+      corners = p.corners;
+      labels = p.labels;
+      second = p.second;
+      passes = p.passes;
+      stage = p.stage;
+      around = box_of sheet;
+    }
+
 abbrev pub joined_to : State → List ℕ → State
-joined_to s sheet = state s.progress (on_sheet_of s.held sheet)
+joined_to s sheet = state (boxed s.progress sheet) (on_sheet_of s.held sheet)
 
 -- an array of so many entries holds these at its front, n of them
 pub record Holds {A : Type 0} (size n : ℕ) (entries these : List A) : Type 0 where
@@ -122,6 +135,7 @@ pub record FrameHeld (f : Parts) (s : State) : Type 0 where
   pub second : HoldsSecond f.second (second_of s.progress) s.held.second_used s.held.second
   pub shades : HoldsShades f.shades s.held.shades
   pub passes : HoldsPasses f.passes s.progress.passes s.held.passes
+  pub box : BoxFound s
 
 -- ---- one line
 
@@ -155,12 +169,13 @@ held_step (Some line) s =
 
 -- ---- after the last line
 
--- both sets are held, and the number of the patch line is small
+-- both sets are held, the box is that of the first, and the number of the patch line is small
 pub record Finishable (s : State) : Type 0 where
   pub sets : HeldSets s.held.sheet s.held.used (take (second_of s.progress) s.held.second)
   pub second_few : second_of s.progress ≤ corner_limit
   pub few : s.progress.corners ≤ corner_limit
   pub labels_few : s.progress.labels ≤ corner_limit
+  pub box : BoxFound s
 
 -- what the end leads to, and the sheet after it
 pub record Finished : Type 0 where
@@ -184,7 +199,7 @@ finish_on true p sheet second = finished_by p (join_on sheet second)
 
 -- ---- all lines
 
--- an accepted frame is held: its corners, the sheet of its given labels, its shades and its passes
+-- an accepted frame is held: its corners, the sheet of its given labels, its shades and its passes, and the label box of that sheet
 pub record FrameDone (f : Frame) (p : Progress) (a : Held) : Type 0 where
   pub settings_are : p.settings ≡ settings_in (parts_of f).opening
   pub corners : HoldsCorners (parts_of f).corners p.corners a.xs a.ys a.pitches
@@ -192,6 +207,7 @@ pub record FrameDone (f : Frame) (p : Progress) (a : Held) : Type 0 where
   pub sheet_long : length a.sheet ≡ place_count
   pub shades : HoldsShades (parts_of f).shades a.shades
   pub passes : HoldsPasses (parts_of f).passes p.passes a.passes
+  pub around_is : p.around ≡ box_of (sheet_of f)
 
 -- a frame read as the definition reads it: the same refusal at the same line, or the frame held
 pub data ReadAs : FrameRead → Result (Unit {0}) FrameRefusal → State → Type 0 where

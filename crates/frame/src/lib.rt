@@ -20,15 +20,18 @@ ghost use Rattle.frame.specs.Reading.{joined_to, Room, went, held_step, Finishab
 
 use arguments::Settings;
 use frame_state::Reading;
+use labels::KeptBox;
 use refusal::Refusal;
 use sizes::{ALL_PASS_WORDS, BYTES, CORNERS, PASS_WORDS, PLACES};
 
-// What an accepted frame says besides what is written to the buffers: cell size, axes and band, and how many corners and passes there are.
+// What an accepted frame says besides what is written to the buffers: cell size, axes and band, how many corners and passes there are, and the label
+// box of the sheet that is written (02, 5/14).
 #[derive(Clone, Copy)]
 pub struct FrameHead {
     pub settings: Settings,
     pub corners: usize,
     pub passes: usize,
+    pub around: KeptBox,
 }
 
 // A refusal with its line, 0 where it is about no line.
@@ -63,8 +66,8 @@ fn step_line(reading: &mut Reading, line: &[u8]) -> Result<(), Refusal>
     Ok(())
 }
 
-// After the last line: the second set is joined to the first where the patch line stands. A refusal is reported at the patch line, which stands
-// behind the first four lines, the corners and the labels of the first set.
+// After the last line: the second set is joined to the first where the patch line stands, and the box is widened to the union. A refusal is reported
+// at the patch line, which stands behind the first four lines, the corners and the labels of the first set.
 fn finish(reading: &mut Reading) -> Result<(), FrameRefusal>
     requires { Finishable reading.old }
     ensures sheet { finished reading.new.held.sheet result
@@ -78,9 +81,12 @@ fn finish(reading: &mut Reading) -> Result<(), FrameRefusal>
     };
     let held = &mut reading.held;
     let second = &held.second[..n];
-    join_sheet::join_sets(&mut held.sheet, &held.used, second).map_err(|refusal| FrameRefusal {
-        refusal,
-        line: 5 + p.corners + p.labels,
+    let around = &mut reading.progress.around;
+    join_sheet::join_sets(&mut held.sheet, around, &held.used, second).map_err(|refusal| {
+        FrameRefusal {
+            refusal,
+            line: 5 + p.corners + p.labels,
+        }
     })
 }
 
@@ -169,6 +175,7 @@ fn read_text(text: &[u8], buffers: &mut Buffers) -> Result<FrameHead, FrameRefus
         settings: p.settings,
         corners: p.corners,
         passes: p.passes,
+        around: KeptBox::of(p.around),
     })
 }
 

@@ -124,7 +124,7 @@ module _ (f f' : Frame) (w : WithinLimits f) (same : SameButOrder f f') where
       }
 
   call_relisted : (p : PassLine) → RelistedCall pairs (call_of f p) (call_of f' p)
-  call_relisted p = record { same_pass = refl; same_settings = settings_same; same_rooms = refl; shades = shades_paired }
+  call_relisted p = record { same_pass = refl; same_settings = settings_same; same_rooms = refl; same_box = refl; shades = shades_paired }
 
   calls_relisted : Relisted pairs (calls_of f) (calls_of f')
   unfolding calls_of

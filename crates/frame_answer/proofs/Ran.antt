@@ -22,7 +22,7 @@ use Rattle.passes.specs.declared.Counts.{Counts}
 use Rattle.passes.specs.declared.LocalStats.{LocalStats}
 use Rattle.passes.specs.Outcome.{After, Outcome, refused, done}
 use Rattle.passes.specs.Step.{unless}
-use Rattle.passes.specs.Run.{Call, step, sheet_after, run, sheet_of as sheetAfterAll}
+use Rattle.passes.specs.Run.{as_left, Call, step, sheet_after, run, sheet_of as sheetAfterAll}
 use Rattle.passes.specs.declared.PassStats.{PassStats}
 use Rattle.invariants.specs.Calls.{Standing, checked_call, after_call}
 use Rattle.invariants.proofs.Run.{step_as_lem, call_accepted, standing_after_lem}
@@ -82,7 +82,7 @@ left_by_list l (c ∷ cs) k s = left_by_list l cs (suc k) (left_by l c k s)
 
 module _ (f : Frame) (rest : List ℕ) where
   call_read : (before after : List ℕ) (k : ℕ) (p : PassLine) → length before ≡ 6 * k → call_at (settings_of f) (shades_of f) 4096 1024 (before ++ (words_of (full_of p) ++ after)) k ≡ frameCall f p
-  call_read before after k p e = ap (call_of (settings_of f) (shades_of f) 4096 1024) (pass_read before after k (full_of p) e)
+  call_read before after k p e = ap (call_of (settings_of f) (shades_of f) as_left 4096 1024) (pass_read before after k (full_of p) e)
 
   -- the passes that are read from their words are those of the frame
   by_list : (before words : List ℕ) (ps : List PassLine) (k : ℕ) (s : Left) → length before ≡ 6 * k → words ≡ before ++ (all_words ps ++ rest)

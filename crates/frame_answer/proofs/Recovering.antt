@@ -12,6 +12,7 @@ use Rattle.frame.specs.Frame.{Frame, parts_of, given_of, FrameRead, refused_at, 
 use Rattle.frame.specs.Text.{WithinLimits}
 use Rattle.frame.specs.ReadFrame.{float_of, xs_of, ys_of, pitches_of, shades_of, sheet_of, settings_of, FullPass, full_grow, full_fill, full_local, full_of, words_of, all_words, Buffers, FrameOut, frame_out, too_short, leaves, unless_short, read_into}
 use Rattle.frame_line.specs.Lines.{CornerLine, PassLine}
+use Rattle.labels.specs.Kept.{box_kept}
 use Rattle.sheet.specs.Corners.{CornerLists, corner_lists}
 use Rattle.sheet.specs.Words.{empty_sheet}
 use Rattle.sheet.proofs.Words.{empty_length}
@@ -95,7 +96,7 @@ module _ (text : List ℕ) (xs ys pitches : List Float) (shades sheet passes : L
             let d : q ≡ record { refusal = r; line = n } = cc in
             rw d (recovers_not r n f (ap (λ (o : FrameOut). after o.buffers) w))
         go (accepted f) h w =
-            let s : ◌≡◌ {A = Result FrameHead FrameRefusal} (Err q) (Ok (record { settings = settings_of f; corners = length (parts_of f).corners; passes = length (parts_of f).passes })) = ap (λ (o : FrameOut). o.answer) w in
+            let s : ◌≡◌ {A = Result FrameHead FrameRefusal} (Err q) (Ok (record { settings = settings_of f; corners = length (parts_of f).corners; passes = length (parts_of f).passes; around = box_kept (sheet_of f) })) = ap (λ (o : FrameOut). o.answer) w in
             absurd (cc)
 
     -- what an accepted frame leaves
@@ -103,7 +104,7 @@ module _ (text : List ℕ) (xs ys pitches : List Float) (shades sheet passes : L
       pub frame : Frame
       pub is_accepted : read_frame text ≡ accepted frame
       pub within : WithinLimits frame
-      pub head_so : head ≡ record { settings = settings_of frame; corners = length (parts_of frame).corners; passes = length (parts_of frame).passes }
+      pub head_so : head ≡ record { settings = settings_of frame; corners = length (parts_of frame).corners; passes = length (parts_of frame).passes; around = box_kept (sheet_of frame) }
       pub xs_so : xs' ≡ over (xs_of frame) xs
       pub ys_so : ys' ≡ over (ys_of frame) ys
       pub pitches_so : pitches' ≡ over (pitches_of frame) pitches
@@ -118,7 +119,7 @@ module _ (text : List ℕ) (xs ys pitches : List Float) (shades sheet passes : L
         go (refused_at r n) q w =
             let s : ◌≡◌ {A = Result FrameHead FrameRefusal} (Ok head) (Err (record { refusal = r; line = n })) = ap (λ (o : FrameOut). o.answer) w in absurd (cc)
         go (accepted f) q w =
-            let s : ◌≡◌ {A = Result FrameHead FrameRefusal} (Ok head) (Ok (record { settings = settings_of f; corners = length (parts_of f).corners; passes = length (parts_of f).passes })) = ap (λ (o : FrameOut). o.answer) w in
+            let s : ◌≡◌ {A = Result FrameHead FrameRefusal} (Ok head) (Ok (record { settings = settings_of f; corners = length (parts_of f).corners; passes = length (parts_of f).passes; around = box_kept (sheet_of f) })) = ap (λ (o : FrameOut). o.answer) w in
             record {
               frame = f;
               is_accepted = q;
@@ -173,6 +174,10 @@ module _ (text : List ℕ) (xs ys pitches : List Float) (shades sheet passes : L
 
     sheet_read : (head : FrameHead) (w : Read head) → sheet' ≡ sheet_of w.frame
     sheet_read head w = w.sheet_so ∙ over_whole (sheet_of w.frame) sheet (sheet_length w.frame ∙ sym room.sheet_whole)
+
+    -- the box that is read is that of the sheet that is read
+    pub box_read : (head : FrameHead) (w : Read head) → head.around ≡ box_kept sheet'
+    box_read head w = ap (λ (h : FrameHead). h.around) w.head_so ∙ ap box_kept (sym (sheet_read head w))
 
     -- equal arguments lead to equal ends
     same : (words : List ℕ) {l l' : CornerLists} {set set' : Settings} {k k' : List ℕ} {q q' a a' : ℕ} {ps ps' : List ℕ} {m m' : ℕ} {s s' : List ℕ}

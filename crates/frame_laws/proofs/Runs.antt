@@ -172,6 +172,7 @@ module _ (f : Frame) (w : WithinLimits f) where
         shades_inside = λ k h. shades_inside f w k;
         settings_inside = settings_inside;
         pass_inside = c.0;
+        box_as_left = refl;
       }
 
   passes_fit : (ps : List PassLine) → All PassTame ps → All (CallInside (frame_corners f)) (map (call_of f) ps)

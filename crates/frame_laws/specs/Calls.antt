@@ -9,7 +9,7 @@ use Rattle.sheet.specs.declared.Cell.{Cell}
 use Rattle.sheet.specs.declared.Offset.{Offset}
 use Rattle.passes.specs.Outcome.{Outcome, refused, done}
 use Rattle.passes.specs.Step.{Rooms}
-use Rattle.passes.specs.Run.{Call, run, sheet_of as sheetLeft}
+use Rattle.passes.specs.Run.{as_left, Call, run, sheet_of as sheetLeft}
 use Rattle.passes.specs.declared.PassStats.{PassStats}
 use Rattle.arguments.specs.Shades.{corners_of}
 use Rattle.invariants.specs.Calls.{Standing, Invariant, CallInside, Accepts}
@@ -51,9 +51,10 @@ pub record GivenLabels (f : Frame) : Type 0 where
 abbrev pub frame_rooms : Rooms
 frame_rooms = record { queue = 4 * corner_limit; attached = corner_limit }
 
--- the call of a pass line: its numbers, those of a bare one included, and the frame's cell size, axes, band and shades
+-- the call of a pass line: its numbers, those of a bare one included, the frame's cell size, axes, band and shades, and the label box that the last
+-- call left, which is at first the one that the reader answers
 abbrev pub call_of : Frame → PassLine → Call
-call_of f p = record { pass = pass_of (full_of p); settings = settings_of f; shades = shades_of f; rooms = frame_rooms }
+call_of f p = record { pass = pass_of (full_of p); settings = settings_of f; shades = shades_of f; around = as_left; rooms = frame_rooms }
 
 unfoldable pub calls_of : Frame → List Call
 calls_of f = map (call_of f) (parts_of f).passes

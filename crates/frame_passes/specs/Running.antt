@@ -4,7 +4,7 @@ use Rattle.sheet.specs.Corners.{CornerLists}
 use Rattle.arguments.specs.declared.Pass.{Pass}
 use Rattle.arguments.specs.declared.Settings.{Settings}
 use Rattle.passes.specs.Outcome.{Outcome, refused, done}
-use Rattle.passes.specs.Run.{Call, step, sheet_after}
+use Rattle.passes.specs.Run.{as_left, Call, step, sheet_after}
 use Rattle.passes.specs.declared.PassStats.{PassStats}
 use Rattle.pass_call.specs.Call.{call_of}
 use Rattle.frame.specs.ReadFrame.{grow_of, fill_of, local_of}
@@ -22,9 +22,9 @@ pass_at words k =
     (cond (eqb (pass_word words k 0) 1) (fill_of (pass_word words k 1) (pass_word words k 2) (pass_word words k 4))
     (local_of (pass_word words k 1) (pass_word words k 2) (pass_word words k 4) (pass_word words k 3) (pass_word words k 5)))
 
--- call k of the passes that are given as words
+-- call k of the passes that are given as words: it is handed the label box as the last one left it
 abbrev pub call_at : Settings → List ℕ → ℕ → ℕ → List ℕ → ℕ → Call
-call_at set shades queue attached passes k = call_of set shades queue attached (pass_at passes k)
+call_at set shades queue attached passes k = call_of set shades as_left queue attached (pass_at passes k)
 
 -- ---- what a call leaves: the sheet, and the words of the outcomes, eleven of each
 

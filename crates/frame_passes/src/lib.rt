@@ -5,6 +5,7 @@
 ghost use Rattle.std.specs.Prelude.{◌≡◌, ◌<◌, ◌≤◌, length, take};
 ghost use Rattle.sheet.specs.Corners.{corner_lists};
 ghost use Rattle.sizes.specs.Sizes.{pass_limit, all_pass_words, all_outcome_words};
+ghost use Rattle.labels.specs.Kept.{box_kept};
 ghost use Rattle.frame_passes.specs.Running.{pass_at, call_at, left, left_by_all, PassWords, AtFront};
 
 use arguments::{FillParams, GrowParams, LocalExtensionParams, Pass};
@@ -45,7 +46,8 @@ fn pass_at(passes: &[u32], k: usize) -> Pass
     }
 }
 
-// Runs the passes of a frame in order on one sheet, and notes their outcomes. Its corners stand at the front of their buffers.
+// Runs the passes of a frame in order on one sheet, and notes their outcomes. Its corners stand at the front of their buffers. The first pass is
+// handed the label box of the head, each later one what the one before it left.
 // Stays: the buffers are lent on to the passes, whose public calls lend each list by itself (d).
 pub fn run_frame(
     passes: &[u32],
@@ -61,6 +63,7 @@ pub fn run_frame(
 )
     requires pass_words { PassWords head.passes passes.now }
     requires at_front { AtFront head.corners xs.now ys.now pitches.now shades.now }
+    requires box_read { head.around ≡ box_kept sheet.old }
     requires all_outcome_words_in_bounds { all_outcome_words ≤ length words.old }
     ensures { left sheet.new words.new
         ≡ left_by_all (corner_lists (take head.corners xs.now) (take head.corners ys.now)
@@ -69,6 +72,7 @@ pub fn run_frame(
         (left sheet.old words.old) }
 {
     let corners = head.corners;
+    let mut around = head.around;
     // Stays: the outcome is put by the pass's number, and the definition reads the pass by it from all words; chunks would have the number beside them as well (d).
     for k in 0..head.passes {
         let pass = pass_at(passes, k);
@@ -78,11 +82,13 @@ pub fn run_frame(
             &pitches[..corners],
             &shades[..corners],
             sheet,
+            around,
             queue,
             attached,
             head.settings,
             pass,
         );
-        report_words::put::put_outcome(words, k, answer);
+        around = answer.map_or(around, |(_, left)| left);
+        report_words::put::put_outcome(words, k, answer.map(|(stats, _)| stats));
     }
 }

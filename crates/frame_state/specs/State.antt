@@ -7,7 +7,7 @@ use Rattle.sizes.specs.Sizes.{place_count, corner_limit, pass_size}
 use Rattle.sheet.specs.Cells.{place_of}
 use Rattle.sheet.specs.Words.{attached}
 use Rattle.arguments.specs.declared.Settings.{Settings}
-use Rattle.frame_line.specs.Table.{kind_at}
+use Rattle.frame_line.specs.Table.{row_count, kind_at}
 use Rattle.frame_line.specs.Lines.{bare_grow}
 use Rattle.frame_line.specs.Held.{count_in, label_in, shade_in}
 use Rattle.frame_line.specs.declared.Kind.{Kind}
@@ -16,6 +16,7 @@ use Rattle.frame_line.specs.declared.PassKind.{PassKind}
 use Rattle.frame_line.specs.declared.HeldLabel.{HeldLabel}
 use Rattle.frame_line.specs.declared.HeldLine.{HeldLine}
 use Rattle.frame_line.specs.declared.HeldShade.{HeldShade}
+use Rattle.labels.specs.Box.{widened, box_of}
 use Rattle.labels.specs.Count.{how_many}
 use Rattle.join_sheet.specs.declared.SecondLabel.{SecondLabel}
 use Rattle.frame_check.specs.Checks.{is_used, checked_held, LabelFits}
@@ -37,7 +38,7 @@ pub record TameAxes (v : List ℕ) : Type 0 where
   pub jx : Tame (get_or v 2 0)
   pub jy : Tame (get_or v 3 0)
 
--- ---- cell size, axes and band, the numbers of corners, labels and passes, whether the patch line stands, and the stage
+-- ---- cell size, axes and band, the numbers of corners, labels and passes, whether the patch line stands, the stage, and the label box
 
 -- whether the patch line stands
 abbrev pub patched_of : Progress → Bool
@@ -66,11 +67,20 @@ nothing_said =
       second = None;
       passes = 0;
       stage = 0;
+      around = None;
     }
 
 abbrev pub at_stage : Progress → ℕ → Progress
 at_stage p stage =
-    record { settings = p.settings; corners = p.corners; labels = p.labels; second = p.second; passes = p.passes; stage = stage }
+    record {
+      settings = p.settings;
+      corners = p.corners;
+      labels = p.labels;
+      second = p.second;
+      passes = p.passes;
+      stage = stage;
+      around = p.around;
+    }
 
 abbrev pub with_cell_size : Settings → ℕ → Settings
 with_cell_size s b =
@@ -109,7 +119,15 @@ with_opening OpeningKind.Band s v = with_band s (get_or v 0 0)
 
 abbrev pub with_settings : Progress → Settings → Progress
 with_settings p s =
-    record { settings = s; corners = p.corners; labels = p.labels; second = p.second; passes = p.passes; stage = p.stage }
+    record {
+      settings = s;
+      corners = p.corners;
+      labels = p.labels;
+      second = p.second;
+      passes = p.passes;
+      stage = p.stage;
+      around = p.around;
+    }
 
 abbrev pub with_corner : Progress → Progress
 with_corner p =
@@ -120,10 +138,12 @@ with_corner p =
       second = p.second;
       passes = p.passes;
       stage = p.stage;
+      around = p.around;
     }
 
-abbrev pub with_label : Progress → Progress
-with_label p =
+-- a label of the first set, by whose cell the box is widened
+abbrev pub with_label : HeldLabel → Progress → Progress
+with_label l p =
     record {
       settings = p.settings;
       corners = p.corners;
@@ -131,6 +151,7 @@ with_label p =
       second = p.second;
       passes = p.passes;
       stage = p.stage;
+      around = widened p.around l.cell;
     }
 
 abbrev pub with_patch : Progress → Progress
@@ -142,6 +163,7 @@ with_patch p =
       second = Some (second_of p);
       passes = p.passes;
       stage = p.stage;
+      around = p.around;
     }
 
 abbrev pub with_second : Progress → Progress
@@ -153,6 +175,7 @@ with_second p =
       second = Some (second_of p + 1);
       passes = p.passes;
       stage = p.stage;
+      around = p.around;
     }
 
 abbrev pub with_pass : Progress → Progress
@@ -164,6 +187,7 @@ with_pass p =
       second = p.second;
       passes = p.passes + 1;
       stage = p.stage;
+      around = p.around;
     }
 
 -- ---- a corner, the n-th
@@ -273,10 +297,14 @@ State = Reading
 abbrev pub state : Progress → Held → State
 state p a = record { progress = p; held = a }
 
+-- the label box that is kept with the sheet is what a search of the sheet finds
+abbrev pub BoxFound : State → Type 0
+BoxFound s = s.progress.around ≡ box_of s.held.sheet
+
 -- a label, to the second set once the patch line stands, else to the first
 abbrev pub label_to : Bool → HeldLabel → State → State
 label_to true l s = state (with_second s.progress) (second_put (second_of s.progress) l s.held)
-label_to false l s = state (with_label s.progress) (label_put l s.held)
+label_to false l s = state (with_label l s.progress) (label_put l s.held)
 
 -- the labels of each set are as many as the corners that it uses
 pub record Counted (p : Progress) (used second_used : List Bool) : Type 0 where
@@ -301,3 +329,9 @@ adds_as (Kind.Pass p) v s = state (with_pass s.progress) (with_passes s.held (wo
 
 abbrev pub adds : HeldLine → State → State
 adds line s = adds_as (kind_at line.row) line.values s
+
+-- ---- the box while lines are read: "Reading labels, joining and attaching must each keep them equal to what a search would find"
+
+-- a line of the table that is added
+abbrev pub ReadingKeepsBox : Type 0
+ReadingKeepsBox = (line : HeldLine) (s : State) → line.row < row_count → Addable s.progress s.held line → BoxFound s → BoxFound (adds line s)

@@ -13,12 +13,14 @@ use frame_check::{Held, Said};
 use frame_line::{HeldLabel, HeldShade, Kind, ListedLine, OpeningKind, PassKind};
 use frame_number::count_of;
 use join_sheet::SecondLabel;
+use labels::Bounds;
 use predict::{Grid, Vector};
 use refusal::Refusal;
 use sizes::PASS_WORDS;
 
 // Cell size, axes and band, how many corners, labels of the first set, labels of the second, None where no patch line stands, and passes there are,
-// and the stage that the lines have come to.
+// the stage that the lines have come to, and the label box that is kept with the sheet: it is widened by each label of the first set. The join
+// widens it by those of the second.
 #[derive(Clone, Copy, Default)]
 pub struct Progress {
     pub settings: Settings,
@@ -27,6 +29,7 @@ pub struct Progress {
     pub second: Option<usize>,
     pub passes: usize,
     pub stage: usize,
+    pub around: Option<Bounds>,
 }
 
 // A line of the opening is said: cell size, axes or band.
@@ -213,6 +216,7 @@ impl Reading {
             None => {
                 put_label(&mut self.held, label);
                 self.progress.labels += 1;
+                self.progress.around = labels::widen(self.progress.around, label.cell);
             }
         }
     }

@@ -1,6 +1,6 @@
--- The three passes for another language: numbers and lent buffers in; out come 0 or the refusal's number, and in eleven lent words what the pass
--- says. Definitions only.
-use Rattle.std.specs.Prelude.{Bool, true, false, List, ℕ, ltb, length, Float}
+-- The three passes for another language: numbers and lent buffers in; out come 0 or the refusal's number, in eleven lent words what the pass
+-- says, and in five lent numbers the label box. Definitions only.
+use Rattle.std.specs.Prelude.{◌≡◌, Bool, true, false, ◌||◌, List, ℕ, ℤ, ltb, length, Float}
 use Rattle.sheet.specs.Corners.{CornerLists}
 use Rattle.refusal.specs.Refusal.{number_of}
 use Rattle.arguments.specs.declared.Pass.{Pass}
@@ -9,12 +9,15 @@ use Rattle.arguments.specs.declared.GrowParams.{GrowParams}
 use Rattle.arguments.specs.declared.FillParams.{FillParams}
 use Rattle.arguments.specs.declared.LocalExtensionParams.{LocalExtensionParams}
 use Rattle.passes.specs.Outcome.{Outcome, refused, done}
-use Rattle.passes.specs.Run.{step}
+use Rattle.passes.specs.Run.{other, step}
+use Rattle.passes.specs.Step.{box_left}
 use Rattle.passes.specs.declared.PassStats.{PassStats}
 use Rattle.pass_call.specs.Call.{call_of}
 use Rattle.sizes.specs.Sizes.{outcome_size}
 use Rattle.report_words.specs.Asked.{with_outcome}
+use Rattle.labels.specs.Kept.{box_kept}
 use Rattle.arguments.specs.Front.{over}
+use Rattle.grid_words.specs.Around.{box_size, box_told, StrangeMark, box_entered}
 
 -- ---- numbers as the calls have them
 
@@ -42,24 +45,52 @@ local_params search factor rounds residual depth =
 pub record PassLeft : Type 0 where
   pub answer : ℕ
   pub sheet : List ℕ
+  pub around : List ℤ
   pub queue : List ℕ
   pub attached : List ℕ
   pub out : List ℕ
 
-abbrev pub pass_left : ℕ → List ℕ → List ℕ → List ℕ → List ℕ → PassLeft
-pass_left answer sheet queue attached out = record { answer = answer; sheet = sheet; queue = queue; attached = attached; out = out }
+abbrev pub pass_left : ℕ → List ℕ → List ℤ → List ℕ → List ℕ → List ℕ → PassLeft
+pass_left answer sheet around queue attached out =
+    record { answer = answer; sheet = sheet; around = around; queue = queue; attached = attached; out = out }
 
--- a refusal's number, and all as it was; or 0, what the pass leaves, and its eleven words at the front of the last buffer
-abbrev pub pass_told : Outcome PassStats → List ℕ → List ℕ → List ℕ → List ℕ → PassLeft
-pass_told (refused r) sheet queue attached out = pass_left (number_of r) sheet queue attached out
-pass_told (done a) sheet queue attached out =
-    pass_left 0 a.sheet (over a.visited queue) (over a.attached attached) (with_outcome out 0 a.answer)
+-- a refusal's number, and all as it was; or 0, what the pass leaves, the box that it leaves at the front of its places, and its eleven words at the
+-- front of the last buffer
+abbrev pub pass_told : Outcome PassStats → List ℕ → List ℤ → List ℕ → List ℕ → List ℕ → PassLeft
+pass_told (refused r) sheet around queue attached out = pass_left (number_of r) sheet around queue attached out
+pass_told (done a) sheet around queue attached out =
+    pass_left 0 a.sheet (box_entered (box_left a) around) (over a.visited queue) (over a.attached attached) (with_outcome out 0 a.answer)
 
--- 7 where there is no room for eleven words, before anything is tried
-abbrev pub pass_unless : Bool → Outcome PassStats → List ℕ → List ℕ → List ℕ → List ℕ → PassLeft
-pass_unless true o sheet queue attached out = pass_left 7 sheet queue attached out
-pass_unless false o sheet queue attached out = pass_told o sheet queue attached out
+-- 7 where there are no five numbers or no room for eleven words, before anything is tried
+unfoldable pub lent_short : List ℤ → List ℕ → Bool
+lent_short around out = ltb (length around) box_size || ltb (length out) outcome_size
 
-unfoldable pub pass_exported : CornerLists → List ℕ → Settings → Pass → List ℕ → List ℕ → List ℕ → List ℕ → PassLeft
-pass_exported l shades set p sheet queue attached out =
-    pass_unless (ltb (length out) outcome_size) (step l sheet (call_of set shades (length queue) (length attached) p)) sheet queue attached out
+abbrev pub pass_unless : Bool → Outcome PassStats → List ℕ → List ℤ → List ℕ → List ℕ → List ℕ → PassLeft
+pass_unless true o sheet around queue attached out = pass_left 7 sheet around queue attached out
+pass_unless false o sheet around queue attached out = pass_told o sheet around queue attached out
+
+-- the pass's step, handed the box that the five numbers say
+abbrev pub step_exported : CornerLists → List ℕ → Settings → Pass → List ℕ → List ℤ → ℕ → ℕ → Outcome PassStats
+step_exported l shades set p sheet around queue attached = step l sheet (call_of set shades (other (box_told around)) queue attached p)
+
+unfoldable pub pass_exported : CornerLists → List ℕ → Settings → Pass → List ℕ → List ℤ → List ℕ → List ℕ → List ℕ → PassLeft
+pass_exported l shades set p sheet around queue attached out =
+    pass_unless (lent_short around out) (step_exported l shades set p sheet around (length queue) (length attached)) sheet around queue attached out
+
+-- ---- the mark of a lent box; proved in proofs/Marks.antt
+
+-- "a mark other than 0 or 1 is 3": a call with such a mark that gets neither 7 nor 2 gets 3, and changes nothing
+abbrev pub StrangeMarkIs3 : Type 0
+StrangeMarkIs3 =
+    (l : CornerLists) (shades : List ℕ) (set : Settings) (p : Pass) (sheet : List ℕ) (around : List ℤ) (queue attached out : List ℕ)
+    → StrangeMark around
+    → ((pass_exported l shades set p sheet around queue attached out).answer ≡ 7 → ⊥)
+    → ((pass_exported l shades set p sheet around queue attached out).answer ≡ 2 → ⊥)
+    → pass_exported l shades set p sheet around queue attached out ≡ pass_left 3 sheet around queue attached out
+
+-- what a call that is done leaves in the five places is the box of the sheet that it leaves, as the next call is told it
+abbrev pub LeftAsHanded : Type 0
+LeftAsHanded =
+    (l : CornerLists) (shades : List ℕ) (set : Settings) (p : Pass) (sheet : List ℕ) (around : List ℤ) (queue attached out : List ℕ)
+    → (pass_exported l shades set p sheet around queue attached out).answer ≡ 0
+    → box_told (pass_exported l shades set p sheet around queue attached out).around ≡ box_kept (pass_exported l shades set p sheet around queue attached out).sheet

@@ -1,4 +1,5 @@
-// The passes: their numbers as settings and params, 7 where there is no room for eleven words, else the pass, and its outcome as eleven words.
+// The passes: their numbers as settings and params, 7 where there is no room for eleven words or no label box, else the pass, its outcome as eleven
+// words and the box that it leaves.
 ghost use Rattle.std.specs.Prelude.{◌≡◌, []};
 ghost use Rattle.sheet.specs.Corners.{corner_lists};
 ghost use Rattle.arguments.specs.declared.Pass.{Pass};
@@ -6,6 +7,7 @@ ghost use Rattle.grid_words.specs.Words.{answered};
 ghost use Rattle.grid_export.specs.Passes.{settings_of, grow_params, fill_params, local_params, pass_left, pass_exported};
 
 use arguments::{FillParams, GrowParams, LocalExtensionParams, Pass, Settings};
+use grid_words::around::{BOX_PLACES, box_told, enter_box};
 use predict::{Grid, Vector};
 use refusal::Refusal;
 use sizes::OUTCOME_WORDS;
@@ -38,37 +40,40 @@ fn settings_of(
     }
 }
 
-// A pass, with room for eleven words, in which its outcome is put.
+// A pass, with the label box that five numbers stand for, and with room for eleven words: its outcome is put in these, and the box that it leaves is
+// entered over the five.
 // Stays: the lists are lent on to `call_pass`, which lends each by itself (d).
-#[tactic(auto, unfolding(crate::specs::Passes::pass_exported))]
+#[tactic(auto, unfolding(crate::specs::Passes::pass_exported, crate::specs::Passes::lent_short))]
 fn pass_or_short(
     xs: &[f32],
     ys: &[f32],
     pitches: &[f32],
     shades: &[u8],
     sheet: &mut [u16],
+    around: &mut [i32],
     queue: &mut [u16],
     attached: &mut [u16],
     settings: Settings,
     pass: Pass,
     out: &mut [u32],
 ) -> Result<(), Refusal>
-    ensures { pass_left (answered result) sheet.new queue.new attached.new out.new
+    ensures { pass_left (answered result) sheet.new around.new queue.new attached.new out.new
         ≡ pass_exported (corner_lists xs.now ys.now pitches.now) shades.now settings pass
-        sheet.old queue.old attached.old out.old }
+        sheet.old around.old queue.old attached.old out.old }
 {
-    if out.len() < OUTCOME_WORDS {
+    if around.len() < BOX_PLACES || out.len() < OUTCOME_WORDS {
         return Err(Refusal::BufferTooShort);
     }
-    let answer = pass_call::call_pass(
-        xs, ys, pitches, shades, sheet, queue, attached, settings, pass,
-    );
-    report_words::put::put_outcome(out, 0, answer);
-    answer?;
+    let handed = box_told(around);
+    let (stats, left) = pass_call::call_pass(
+        xs, ys, pitches, shades, sheet, handed, queue, attached, settings, pass,
+    )?;
+    report_words::put::put_outcome(out, 0, Ok(stats));
+    enter_box(around, left);
     Ok(())
 }
 
-// Grow. `out` takes the eleven words of its outcome.
+// Grow. `around` has the five numbers of the sheet's label box and takes those of the one that is left; `out` takes the eleven words of its outcome.
 // Stays: the C interface passes each number and lends each buffer by itself (a).
 #[unsafe(no_mangle)]
 pub extern "C" fn projective_grid_extend_from_labelled(
@@ -77,6 +82,7 @@ pub extern "C" fn projective_grid_extend_from_labelled(
     pitches: &[f32],
     shades: &[u8],
     sheet: &mut [u16],
+    around: &mut [i32],
     queue: &mut [u16],
     attached: &mut [u16],
     cell_size: f32,
@@ -90,11 +96,11 @@ pub extern "C" fn projective_grid_extend_from_labelled(
     boundary_search_factor: f32,
     out: &mut [u32],
 ) -> u32
-    ensures { pass_left result sheet.new queue.new attached.new out.new
+    ensures { pass_left result sheet.new around.new queue.new attached.new out.new
         ≡ pass_exported (corner_lists xs.now ys.now pitches.now) shades.now
         (settings_of cell_size axis_i_x axis_i_y axis_j_x axis_j_y edge_length_tol)
         (Pass.Grow (grow_params attach_search_rel attach_ambiguity_factor boundary_search_factor))
-        sheet.old queue.old attached.old out.old }
+        sheet.old around.old queue.old attached.old out.old }
 {
     let settings = settings_of(
         cell_size,
@@ -115,6 +121,7 @@ pub extern "C" fn projective_grid_extend_from_labelled(
         pitches,
         shades,
         sheet,
+        around,
         queue,
         attached,
         settings,
@@ -124,7 +131,7 @@ pub extern "C" fn projective_grid_extend_from_labelled(
     grid_words::words::answered(outcome)
 }
 
-// Fill, which is lent no queue. `out` takes the eleven words of its outcome.
+// Fill, as grow, but it is lent no queue.
 // Stays: the C interface passes each number and lends each buffer by itself (a).
 #[unsafe(no_mangle)]
 pub extern "C" fn projective_grid_fill_grid_holes(
@@ -133,6 +140,7 @@ pub extern "C" fn projective_grid_fill_grid_holes(
     pitches: &[f32],
     shades: &[u8],
     sheet: &mut [u16],
+    around: &mut [i32],
     attached: &mut [u16],
     cell_size: f32,
     axis_i_x: f32,
@@ -145,11 +153,11 @@ pub extern "C" fn projective_grid_fill_grid_holes(
     max_iters: u32,
     out: &mut [u32],
 ) -> u32
-    ensures { pass_left result sheet.new [] attached.new out.new
+    ensures { pass_left result sheet.new around.new [] attached.new out.new
         ≡ pass_exported (corner_lists xs.now ys.now pitches.now) shades.now
         (settings_of cell_size axis_i_x axis_i_y axis_j_x axis_j_y edge_length_tol)
         (Pass.Fill (fill_params attach_search_rel attach_ambiguity_factor max_iters))
-        sheet.old [] attached.old out.old }
+        sheet.old around.old [] attached.old out.old }
 {
     let mut none = [0u16; 0];
     let settings = settings_of(
@@ -171,6 +179,7 @@ pub extern "C" fn projective_grid_fill_grid_holes(
         pitches,
         shades,
         sheet,
+        around,
         &mut none,
         attached,
         settings,
@@ -180,7 +189,7 @@ pub extern "C" fn projective_grid_fill_grid_holes(
     grid_words::words::answered(outcome)
 }
 
-// Local, which is lent no queue. `out` takes the eleven words of its outcome.
+// Local, as grow, but it is lent no queue.
 // Stays: the C interface passes each number and lends each buffer by itself (a).
 #[unsafe(no_mangle)]
 pub extern "C" fn projective_grid_extend_via_local_homography(
@@ -189,6 +198,7 @@ pub extern "C" fn projective_grid_extend_via_local_homography(
     pitches: &[f32],
     shades: &[u8],
     sheet: &mut [u16],
+    around: &mut [i32],
     attached: &mut [u16],
     cell_size: f32,
     axis_i_x: f32,
@@ -203,11 +213,11 @@ pub extern "C" fn projective_grid_extend_via_local_homography(
     extend_depth: u32,
     out: &mut [u32],
 ) -> u32
-    ensures { pass_left result sheet.new [] attached.new out.new
+    ensures { pass_left result sheet.new around.new [] attached.new out.new
         ≡ pass_exported (corner_lists xs.now ys.now pitches.now) shades.now
         (settings_of cell_size axis_i_x axis_i_y axis_j_x axis_j_y edge_length_tol)
         (Pass.Local (local_params search_rel ambiguity_factor max_iters max_residual_rel extend_depth))
-        sheet.old [] attached.old out.old }
+        sheet.old around.old [] attached.old out.old }
 {
     let mut none = [0u16; 0];
     let settings = settings_of(
@@ -231,6 +241,7 @@ pub extern "C" fn projective_grid_extend_via_local_homography(
         pitches,
         shades,
         sheet,
+        around,
         &mut none,
         attached,
         settings,

@@ -3,6 +3,7 @@ ghost use Rattle.std.specs.Prelude.{◌≡◌, ◌≤◌, length, IfErr};
 ghost use Rattle.frame.specs.Reading.{buffers};
 ghost use Rattle.grid_words.specs.Frames.{settings_entered, frame_answered, frame_left, frame_exported};
 
+use super::around::BOX_PLACES;
 use arguments::Settings;
 use frame::FrameRefusal;
 use refusal::Refusal;
@@ -23,7 +24,7 @@ fn enter_settings(floats: &mut [f32], settings: Settings)
     ]);
 }
 
-// Reads a frame, with room for six floats and two words that say what its head says.
+// Reads a frame, with room for five numbers, six floats and two words that say what its head says.
 // Stays: each buffer is lent by itself, as the C interface lends it (a).
 #[tactic(auto, unfolding(crate::specs::Frames::frame_exported, crate::specs::Frames::head_short))]
 pub fn read_or_short(
@@ -33,20 +34,22 @@ pub fn read_or_short(
     pitches: &mut [f32],
     shades: &mut [u8],
     sheet: &mut [u16],
+    around: &mut [i32],
     passes: &mut [u32],
     settings: &mut [f32],
     out: &mut [u32],
 ) -> Result<(), FrameRefusal>
     ensures left { frame_left (frame_answered result) xs.new ys.new pitches.new shades.new sheet.new
-        passes.new settings.new out.new ≡ frame_exported text.now
+        around.new passes.new settings.new out.new ≡ frame_exported text.now
         (buffers xs.old ys.old pitches.old shades.old sheet.old passes.old)
-        settings.old out.old }
+        around.old settings.old out.old }
     ensures line { IfErr result (λ e. e.line ≤ 10000000) }
 {
-    if settings.len() < 6 || out.len() < 2 {
+    if around.len() < BOX_PLACES || settings.len() < 6 || out.len() < 2 {
         return Err(FrameRefusal::from(Refusal::BufferTooShort));
     }
     let head = frame::read_frame(text, xs, ys, pitches, shades, sheet, passes)?;
+    super::around::enter_box(around, head.around);
     enter_settings(settings, head.settings);
     super::words::enter(out, 0, head.corners);
     super::words::enter(out, 1, head.passes);

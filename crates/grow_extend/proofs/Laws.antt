@@ -20,8 +20,13 @@ use Rattle.sheet.specs.declared.held.CornerArrays.{CornerArrays}
 use Rattle.sheet.specs.declared.Position.{Position}
 use Rattle.sheet.proofs.Corners.{given_attached}
 use Rattle.labels.specs.Labelled.{SameLabels}
+use Rattle.labels.specs.Box.{widened, box_of}
+use Rattle.labels.specs.Kept.{kept_of}
 use Rattle.labels.specs.Used.{used_on, Tied}
-use Rattle.labels.proofs.Labelled.{hole_keeps, ambiguous_keeps}
+use Rattle.labels.specs.declared.Bounds.{Bounds}
+use Rattle.labels.specs.declared.kept.KeptBox.{KeptBox}
+use Rattle.labels.proofs.Box.{same_box, box_attached}
+use Rattle.labels.proofs.Labelled.{labels_places, hole_keeps, ambiguous_keeps}
 use Rattle.labels.proofs.Used.{tied_attached}
 use Rattle.predict.specs.Predict.{prediction_of, extrapolating}
 use Rattle.arguments.specs.Shades.{corners_of}
@@ -99,6 +104,13 @@ module _ (g : Growing) (c : Cell) (on : OnSheet c) where
   unfolding ambiguous_marked
   given_ambiguous = given_same (length-set g.sheet.now (place_of c) _) (ambiguous_keeps g.sheet.now c g.given.long on) g.given
 
+  -- and so does the label box
+  pub boxed_hole : g.around ≡ box_of (hole_marked g.sheet.now c)
+  boxed_hole = g.boxed ∙ sym (same_box _ _ (labels_places (hole_keeps g.sheet.now c g.given.long on)))
+
+  pub boxed_ambiguous : g.around ≡ box_of (ambiguous_marked g.sheet.now c)
+  boxed_ambiguous = g.boxed ∙ sym (same_box _ _ (labels_places (ambiguous_keeps g.sheet.now c g.given.long on)))
+
 -- only marks and counts are written
 pub record MarksOnly (before after : Growing) : Type 0 where
   pub same : SameRun before after
@@ -172,6 +184,10 @@ module _ {g : Growing} {q : Queue} {c : Cell} {k : ℕ} (w : Attachable g q c k)
 
   pub tied_more : Tied (attached g.sheet.now c k) (set g.used k true)
   tied_more = tied_attached w.attaching (omega (arith, w.known, g.corners.now.count.few)) g.tied
+
+  -- the label box takes the cell in
+  pub boxed_more : widened g.around c ≡ box_of (attached g.sheet.now c k)
+  boxed_more = ap (λ (b : Option Bounds). widened b c) g.boxed ∙ sym (box_attached w.attaching)
 
   -- the queue has room for the cell's neighbours
   pub attached_room : {sheet : List ℕ} → sheet ≡ attached g.sheet.now c k → Room 4 sheet q
@@ -390,8 +406,8 @@ module _ {g : Growing} {q : Queue} (w : Startable g q) where
 
 -- ---- the call
 
-module _ (corners : CornerLists) (set : Settings) (p : GrowParams) (shades sheet queue news : List ℕ) where
-  module _ (a : Accepted (lent_of corners shades sheet (rooms (length queue) (length news))) set (Pass.Grow p)) where
+module _ (corners : CornerLists) (set : Settings) (p : GrowParams) (shades sheet : List ℕ) (around : KeptBox) (queue news : List ℕ) where
+  module _ (a : Accepted (lent_of corners shades sheet around (rooms (length queue) (length news))) set (Pass.Grow p)) where
     pub call_startable : {g : Growing} {q : Queue} → g.corners.now.count.number ≡ length corners.xs → g.sheet.now ≡ sheet → Empty queue q → g.attached.now ≡ news → g.counts ≡ no_counts → Startable g q
     unfolding queue_needed
     call_startable n s q l c =
@@ -405,41 +421,42 @@ module _ (corners : CornerLists) (set : Settings) (p : GrowParams) (shades sheet
         }
 
     -- the pass done
-    pub call_left : {before after : Growing} {q next : Queue} {stats : GrowStats} → held before ≡ corners_of corners shades → before.setup.settings ≡ set → before.setup.params ≡ p → before.sheet.now ≡ sheet
+    pub call_left : {before after : Growing} {q next : Queue} {stats : GrowStats} {kept : KeptBox} → held before ≡ corners_of corners shades → before.setup.settings ≡ set → before.setup.params ≡ p → before.sheet.now ≡ sheet
         → q.places.now ≡ queue → before.attached.now ≡ news → Left before q after next (grow_run (held before) before.setup.settings before.setup.params before.sheet.now) → stats ≡ stats_of after
-        → {s q' n : List ℕ} → s ≡ after.sheet.now → q' ≡ next.places.now → n ≡ after.attached.now → grow_out (Ok stats) s q' n ≡ grow_leaves (done (grow_after (corners_of corners shades) set p sheet)) sheet queue news
+        → kept ≡ kept_of after.around → {s q' n : List ℕ} → s ≡ after.sheet.now → q' ≡ next.places.now → n ≡ after.attached.now
+        → grow_out (Ok (stats, kept)) s q' n ≡ grow_leaves (done (grow_after (corners_of corners shades) set p sheet)) sheet queue news
     unfolding grow_after
-    call_left {before} {after} cs s m sh q n l e es eq en =
+    call_left {before} {after} cs s m sh q n l e k es eq en =
         let run : grow_run (held before) before.setup.settings before.setup.params before.sheet.now ≡ grow_run (corners_of corners shades) set p sheet = rw (cs, s, m, sh) in
-        rw (e, es, eq, en, l.counts_are, l.sheet_is, l.queue_is, l.attached_is, run, q, n)
+        rw (e, k, after.boxed, es, eq, en, l.counts_are, l.sheet_is, l.queue_is, l.attached_is, run, q, n)
 
   -- what the call promises of its answer and its buffers, and of what the answer says
   abbrev pub Promised : GrowOut → Type 0
   Promised out =
-      let o = grow_step corners shades sheet set p (rooms (length queue) (length news)) in
+      let o = grow_step corners shades sheet around set p (rooms (length queue) (length news)) in
       (out ≡ grow_leaves o sheet queue news) × (grow_said out.answer ≡ outcome_due grow_values o)
 
-  promised : {out : GrowOut} → out ≡ grow_leaves (grow_step corners shades sheet set p (rooms (length queue) (length news))) sheet queue news → Promised out
+  promised : {out : GrowOut} → out ≡ grow_leaves (grow_step corners shades sheet around set p (rooms (length queue) (length news))) sheet queue news → Promised out
   promised e = (e, grow_said_lem _ sheet queue news _ e)
 
   -- by what the check of the arguments finds
-  module _ {found : Checked} (is : found ≡ checked (lent_of corners shades sheet (rooms (length queue) (length news))) set (Pass.Grow p)) where
+  module _ {found : Checked} (is : found ≡ checked (lent_of corners shades sheet around (rooms (length queue) (length news))) set (Pass.Grow p)) where
     leaves_refused : {r : Refusal} → found ≡ Err r
-        → grow_out (Err r) sheet queue news ≡ grow_leaves (grow_step corners shades sheet set p (rooms (length queue) (length news))) sheet queue news
+        → grow_out (Err r) sheet queue news ≡ grow_leaves (grow_step corners shades sheet around set p (rooms (length queue) (length news))) sheet queue news
     unfolding grow_step
     leaves_refused e = rw (← is, e)
 
     pub call_refused : {r : Refusal} → found ≡ Err r → Promised (grow_out (Err r) sheet queue news)
     call_refused e = promised (leaves_refused e)
 
-    pub call_accepted : found ≡ Ok tt → Accepted (lent_of corners shades sheet (rooms (length queue) (length news))) set (Pass.Grow p)
+    pub call_accepted : found ≡ Ok tt → Accepted (lent_of corners shades sheet around (rooms (length queue) (length news))) set (Pass.Grow p)
     call_accepted e = accepted _ _ _ (sym is ∙ e)
 
     leaves_done : found ≡ Ok tt → {out : GrowOut} → out ≡ grow_leaves (done (grow_after (corners_of corners shades) set p sheet)) sheet queue news
-        → out ≡ grow_leaves (grow_step corners shades sheet set p (rooms (length queue) (length news))) sheet queue news
+        → out ≡ grow_leaves (grow_step corners shades sheet around set p (rooms (length queue) (length news))) sheet queue news
     unfolding grow_step
     leaves_done e h = rw (← is, e) h
 
-    pub call_done : found ≡ Ok tt → {r : Answer GrowStats} {s q n : List ℕ} → grow_out r s q n ≡ grow_leaves (done (grow_after (corners_of corners shades) set p sheet)) sheet queue news
+    pub call_done : found ≡ Ok tt → {r : Answer (GrowStats × KeptBox)} {s q n : List ℕ} → grow_out r s q n ≡ grow_leaves (done (grow_after (corners_of corners shades) set p sheet)) sheet queue news
         → Promised (grow_out r s q n)
     call_done e h = promised (leaves_done e h)

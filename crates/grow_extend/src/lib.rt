@@ -6,6 +6,7 @@
 
 ghost use Rattle.std.specs.Prelude.{◌≡◌, ◌≤◌, length, Ok};
 ghost use Rattle.sheet.specs.Corners.{Given, corner_lists};
+ghost use Rattle.labels.specs.Box.{box_of};
 ghost use Rattle.labels.specs.Used.{Tied};
 ghost use Rattle.arguments.specs.Shades.{corners_of};
 ghost use Rattle.arguments.specs.Asked.{lists_of};
@@ -19,6 +20,7 @@ use arguments::{GrowParams, LentCorners, Pass, Settings};
 use candidates::HeldCorners;
 use extension_common::{ChoiceRule, NotAttached, Search, Trial, TryCellResult};
 use grow_queue::Queue;
+use labels::{Bounds, KeptBox};
 use passes::{Counts, GrowStats};
 use refusal::Refusal;
 use sheet::{Cell, CornerArrays, NO_CORNERS};
@@ -59,17 +61,19 @@ impl GrowSetup {
     }
 }
 
-// A run: the corners, and how they are searched; the lent sheet, the lent list of the cells that are new, which corners are used, and the counts so
-// far. The queue stands beside it.
+// A run: the corners, and how they are searched; the lent sheet and its label box, the lent list of the cells that are new, which corners are used,
+// and the counts so far. The queue stands beside it.
 #[derive(Drop)]
 pub struct Growing<'a> {
     pub corners: &'a CornerArrays,
     pub setup: GrowSetup,
     pub sheet: &'a mut [u16],
+    pub around: Option<Bounds>,
     pub attached: &'a mut [u16],
     pub used: [bool; CORNERS],
     pub counts: Counts,
     ghost given: { Given corners.now.count.number sheet.now },
+    ghost boxed: { around ≡ box_of sheet.now },
     ghost tied: { Tied sheet.now used },
     ghost within: { counts.attached ≤ length attached.now },
 }
@@ -100,7 +104,7 @@ impl<'a> Growing<'a> {
         trial.try_predicted(setup.settings.grid)
     }
 
-    // Attaches a corner to a cell: its marks stay, the cell joins the attached list, and its neighbours are queued.
+    // Attaches a corner to a cell: its marks stay, the label box takes the cell in, the cell joins the attached list, and its neighbours are queued.
     fn attach_corner(&mut self, queue: &mut Queue, c: Cell, k: usize)
         requires { Attachable self.old queue.old c k }
         ensures { Leaves self.old queue.old self.new queue.new (grow_with c (Ok k) (state_of self.old queue.old)) }
@@ -109,6 +113,7 @@ impl<'a> Growing<'a> {
         let sheet = &mut *self.sheet;
         sheet::attach(sheet, c, k);
         queue.enqueue_cardinal_neighbours(sheet, c);
+        self.around = labels::widen(self.around, c);
         self.used[k] = true;
         self.counts = passes::one_more(Ok(k), self.counts);
     }
@@ -178,17 +183,18 @@ impl<'a> Growing<'a> {
     }
 }
 
-// The pass on arguments that are accepted: which corners are used, the seeds, the run, and the rim at its end.
+// The pass on arguments that are accepted: which corners are used, the seeds, the run, and the rim and the label box at its end.
 // Stays: the public call is lent them one by one; here the queue becomes a struct of its own, and the other two go into the run (d).
 fn extend(
     corners: LentCorners,
     sheet: &mut [u16],
+    around: KeptBox,
     queue: &mut [u16],
     attached: &mut [u16],
     settings: Settings,
     params: GrowParams,
-) -> GrowStats
-    requires { Accepted (lent_of (lists_of corners) corners.shades.now sheet.old (rooms (length queue.old)
+) -> (GrowStats, KeptBox)
+    requires { Accepted (lent_of (lists_of corners) corners.shades.now sheet.old around (rooms (length queue.old)
         (length attached.old))) settings (Pass.Grow params) }
     ensures { grow_out (Ok result) sheet.new queue.new attached.new
         ≡ grow_leaves (Outcome.done (grow_after (corners_of (lists_of corners.entry) corners.entry.shades.now)
@@ -202,17 +208,19 @@ fn extend(
         corners: &held,
         setup: GrowSetup { settings, params },
         sheet,
+        around: around.around(),
         attached,
         used,
         counts: Counts::default(),
     };
     growing.run(&mut queue);
-    growing.stats()
+    (growing.stats(), KeptBox::of(growing.around))
 }
 
-// Grow on the corners, their shades and the sheet that are lent. A refusal says why and changes nothing. Else the sheet holds what grow
-// left, the queue holds the visited cells in order, the attached list the new cells in order, the rest of both untouched, and the answer
-// has the counts and the rim. `said` is the same answer in 01's number or values.
+// Grow on the corners, their shades and the sheet that are lent, and the sheet's label box, which is handed and answered. A refusal says why and
+// changes nothing; a box that differs from the sheet is one. Else the sheet holds what grow left, the queue holds the visited cells in order, the
+// attached list the new cells in order, the rest of both untouched, and the answer has the counts and the rim, and the label box of what grow left.
+// `said` is the same answer in 01's number or values.
 // Stays: the public calls of the passes lend slice by slice, as 01 has it and as the C interface does (a).
 pub fn extend_from_labelled(
     xs: &[f32],
@@ -220,17 +228,18 @@ pub fn extend_from_labelled(
     pitches: &[f32],
     shades: &[u8],
     sheet: &mut [u16],
+    around: KeptBox,
     queue: &mut [u16],
     attached: &mut [u16],
     settings: Settings,
     params: GrowParams,
-) -> Result<GrowStats, Refusal>
+) -> Result<(GrowStats, KeptBox), Refusal>
     ensures attached_after { grow_out result sheet.new queue.new attached.new
         ≡ grow_leaves (grow_step (corner_lists xs.now ys.now pitches.now) shades.now sheet.old
-        settings params (rooms (length queue.old) (length attached.old))) sheet.old queue.old
+        around settings params (rooms (length queue.old) (length attached.old))) sheet.old queue.old
         attached.old }
     ensures said { grow_said result ≡ outcome_due grow_values (grow_step (corner_lists xs.now ys.now pitches.now)
-        shades.now sheet.old settings params (rooms (length queue.old) (length attached.old))) }
+        shades.now sheet.old around settings params (rooms (length queue.old) (length attached.old))) }
 {
     let corners = LentCorners {
         xs,
@@ -241,10 +250,11 @@ pub fn extend_from_labelled(
     arguments::check_arguments(
         corners,
         sheet,
+        around,
         queue.len(),
         attached.len(),
         settings,
         Pass::Grow(params),
     )?;
-    Ok(extend(corners, sheet, queue, attached, settings, params))
+    Ok(extend(corners, sheet, around, queue, attached, settings, params))
 }

@@ -9,4 +9,5 @@ pub mod Local
 pub mod Marks
 pub mod GrowMarks
 pub mod Run
+pub mod Boxes
 pub mod Unshaded

@@ -1,8 +1,8 @@
 -- Laws of every list of calls, refused ones among them, whatever their factors: after each call the corners and the sheet belong together and
 -- no corner holds two cells, the given labels are kept, and each call that ran has its history; so each new corner had an accepted edge to a
 -- labelled cardinal neighbour, or no such neighbour, when attached, and each that a call attached to which a shade is lent is of its cell's kind. Only
--- grow sets marks, and only local clears them. A call whose numbers and buffers are right is not refused in mid-list.
--- Assumes nothing.
+-- grow sets marks, and only local clears them. A call whose numbers and buffers are right, and which is handed the label box as the last call left
+-- it, is not refused in mid-list. Assumes nothing.
 use Rattle.std.specs.Prelude.{Ok, Err, None}
 use mathlib.Core.Path.{◌≡◌, refl, sym, ap, ◌∙◌, subst}
 use mathlib.Core.List.Memᴰ
@@ -18,9 +18,12 @@ use Rattle.sheet.specs.Words.{label_at}
 use Rattle.sheet.specs.declared.Cell.{Cell}
 use Rattle.sheet.proofs.Words.{no_corner_lem}
 use Rattle.labels.specs.Labelled.{LabelledCell}
+use Rattle.labels.specs.Box.{box_of}
+use Rattle.labels.specs.Kept.{around_of}
+use Rattle.labels.proofs.Keeping.{around_kept}
 use Rattle.arguments.specs.Shades.{corners_of}
 use Rattle.arguments.specs.Arguments.{Checked, checked}
-use Rattle.arguments.specs.Accepted.{Accepted}
+use Rattle.arguments.specs.Accepted.{BoxRight, Accepted}
 use Rattle.arguments.specs.declared.Settings.{Settings}
 use Rattle.arguments.proofs.Laws.{accepted, accepted_fine}
 use Rattle.arguments.specs.declared.Pass.{Pass}
@@ -28,14 +31,14 @@ use Rattle.passes.specs.Outcome.{After, Outcome, refused, done}
 use Rattle.passes.specs.Grow.{tolerances_of, grow_after}
 use Rattle.passes.specs.Fill.{fill_after}
 use Rattle.passes.specs.Local.{local_after}
-use Rattle.passes.specs.Step.{lent_of, unless, grow_step, fill_step, local_step}
-use Rattle.passes.specs.Run.{Call, renamed, step_as, step, sheet_after, run, sheet_of}
+use Rattle.passes.specs.Step.{unless, grow_step, fill_step, local_step}
+use Rattle.passes.specs.Run.{Handed, as_left, handed, Call, renamed, step_as, step, sheet_after, run, sheet_of}
 use Rattle.passes.specs.declared.PassStats.{PassStats}
 use Rattle.passes.specs.History.{History}
 use Rattle.passes.specs.Changes.{NoMarks}
 use Rattle.passes.proofs.Changes.{same_marks}
 use Rattle.invariants.specs.Kept.{Sound, Kept, Extended, AttachedAt, Histories, before, pass, AttachedInTurn}
-use Rattle.invariants.specs.Calls.{Standing, checked_call, answering, after_pass, after_call, attached_count, OfItsKind, Ran, Goes, ended, refuses, runs, attached_in, Invariants, CallInside, Accepts, NeverRefused}
+use Rattle.invariants.specs.Calls.{Standing, lent_call, checked_call, answering, after_pass, after_call, attached_count, OfItsKind, Ran, Goes, ended, refuses, runs, attached_in, Invariants, CallInside, Accepts, NeverRefused}
 use Rattle.invariants.specs.Marks.{MarksStand, NotIn, PassMarks, cleared_by, cleared_in, visited_in, MarksOver}
 use Rattle.invariants.proofs.Extended.{still_labelled, extended_marked, extended_then}
 use Rattle.invariants.proofs.History.{history_extended, attached_at, histories_then, attached_in_turn}
@@ -57,10 +60,10 @@ step_as_lem l sheet c = go c.pass
     under f (Ok tt) a = refl
     under f (Err r) a = refl
 
-    go : (p : Pass) → step_as l c.shades sheet c.settings c.rooms p ≡ unless (checked (lent_of l c.shades sheet c.rooms) c.settings p) (after_pass l c.shades sheet c.settings p)
-    go (Pass.Grow p) = under PassStats.Grow (checked (lent_of l c.shades sheet c.rooms) c.settings (Pass.Grow p)) (grow_after (corners_of l c.shades) c.settings p sheet)
-    go (Pass.Fill p) = under PassStats.Fill (checked (lent_of l c.shades sheet c.rooms) c.settings (Pass.Fill p)) (fill_after (corners_of l c.shades) c.settings p sheet)
-    go (Pass.Local p) = under PassStats.Local (checked (lent_of l c.shades sheet c.rooms) c.settings (Pass.Local p)) (local_after (corners_of l c.shades) c.settings p sheet)
+    go : (p : Pass) → step_as l c.shades sheet (handed sheet c.around) c.settings c.rooms p ≡ unless (checked (lent_call l sheet c) c.settings p) (after_pass l c.shades sheet c.settings p)
+    go (Pass.Grow p) = under PassStats.Grow (checked (lent_call l sheet c) c.settings (Pass.Grow p)) (grow_after (corners_of l c.shades) c.settings p sheet)
+    go (Pass.Fill p) = under PassStats.Fill (checked (lent_call l sheet c) c.settings (Pass.Fill p)) (fill_after (corners_of l c.shades) c.settings p sheet)
+    go (Pass.Local p) = under PassStats.Local (checked (lent_call l sheet c) c.settings (Pass.Local p)) (local_after (corners_of l c.shades) c.settings p sheet)
 
 pub standing_sound : {l : CornerLists} {sheet : List ℕ} → Standing l sheet → Sound (length l.xs) sheet
 standing_sound s = record { long = s.given.long; known = record { known = s.given.known }; one_cell = s.one_cell }
@@ -91,9 +94,13 @@ module _ (l : CornerLists) (shades sheet : List ℕ) (set : Settings) (few : len
   pass_marks (Pass.Fill p) = fill_marks (corners_of l shades) few sheet set p s.long
   pass_marks (Pass.Local p) = local_marks (corners_of l shades) few sheet set p s.long
 
+-- the box that is handed as the last call left it is what a search of the sheet finds
+pub left_right : (l : CornerLists) (sheet : List ℕ) (c : Call) → c.around ≡ as_left → BoxRight (lent_call l sheet c)
+left_right l sheet c e = ap (λ (h : Handed). around_of (handed sheet h)) e ∙ around_kept (box_of sheet)
+
 -- a call that is not refused
-pub call_accepted : (l : CornerLists) (sheet : List ℕ) (c : Call) → checked_call l sheet c ≡ Ok tt → Accepted (lent_of l c.shades sheet c.rooms) c.settings c.pass
-call_accepted l sheet c e = accepted (lent_of l c.shades sheet c.rooms) c.settings c.pass e
+pub call_accepted : (l : CornerLists) (sheet : List ℕ) (c : Call) → checked_call l sheet c ≡ Ok tt → Accepted (lent_call l sheet c) c.settings c.pass
+call_accepted l sheet c e = accepted (lent_call l sheet c) c.settings c.pass e
 
 -- each new corner is of its cell's kind, where a shade is lent
 of_its_kind : (l : CornerLists) (c : Call) (sheet : List ℕ) (a : After PassStats) (n : ℕ)
@@ -107,7 +114,7 @@ of_its_kind l c sheet a n w =
       of_kind = λ any. taken_kind c.shades (length l.xs) _ t.corner t.attaches.given any t.attaches.taken;
     }
 
-pub call_ran : (l : CornerLists) (sheet : List ℕ) (c : Call) → Accepted (lent_of l c.shades sheet c.rooms) c.settings c.pass → Ran l c sheet (after_call l sheet c)
+pub call_ran : (l : CornerLists) (sheet : List ℕ) (c : Call) → Accepted (lent_call l sheet c) c.settings c.pass → Ran l c sheet (after_call l sheet c)
 call_ran l sheet c w =
     let s = standing_sound {l = l} (record { listed = w.listed; given = w.given; one_cell = w.one_cell }) in
     let h = pass_history l c.shades sheet c.settings w.few s c.pass in
@@ -123,7 +130,7 @@ call_ran l sheet c w =
 -- a call's outcome: refused, or it was accepted and ran
 pub data Outcomes (l : CornerLists) (sheet : List ℕ) (c : Call) : Outcome PassStats → Type 0 where
   was_refused : (r : Refusal) → Outcomes l sheet c (refused r)
-  ran : (a : After PassStats) → Accepted (lent_of l c.shades sheet c.rooms) c.settings c.pass → Ran l c sheet a → Outcomes l sheet c (done a)
+  ran : (a : After PassStats) → Accepted (lent_call l sheet c) c.settings c.pass → Ran l c sheet a → Outcomes l sheet c (done a)
 
 pub outcomes : (l : CornerLists) (sheet : List ℕ) (c : Call) → Outcomes l sheet c (step l sheet c)
 outcomes l sheet c = subst (Outcomes l sheet c) (sym (step_as_lem l sheet c)) (go (checked_call l sheet c) refl)
@@ -304,9 +311,9 @@ module _ (l : CornerLists) where
   -- ---- no refusal in mid-list
 
   pub fit_accepts : (sheet : List ℕ) (c : Call) → Standing l sheet → CallInside l c → Accepts l sheet c
-  fit_accepts sheet c s f = record { done_so = step_as_lem l sheet c ∙ ap (λ (k : Checked). unless k (after_call l sheet c)) (accepted_fine (lent_of l c.shades sheet c.rooms) c.settings c.pass right) }
+  fit_accepts sheet c s f = record { done_so = step_as_lem l sheet c ∙ ap (λ (k : Checked). unless k (after_call l sheet c)) (accepted_fine (lent_call l sheet c) c.settings c.pass right) }
     where
-      right : Accepted (lent_of l c.shades sheet c.rooms) c.settings c.pass
+      right : Accepted (lent_call l sheet c) c.settings c.pass
       right =
           record {
             queue_long = f.queue_long;
@@ -317,6 +324,7 @@ module _ (l : CornerLists) where
             shades_inside = f.shades_inside;
             settings_inside = f.settings_inside;
             pass_inside = f.pass_inside;
+            box_right = left_right l sheet c f.box_as_left;
             listed = s.listed;
             given = s.given;
             one_cell = s.one_cell;

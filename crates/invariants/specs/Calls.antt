@@ -9,7 +9,7 @@ use Rattle.sheet.specs.Shades.{kind, kind_at}
 use Rattle.sheet.specs.Corners.{CornerLists, corner_of, AllListed, Given}
 use Rattle.labels.specs.Used.{OneCell}
 use Rattle.arguments.specs.Shades.{shade_of, any_shade, corners_of}
-use Rattle.arguments.specs.Arguments.{Checked, queue_needed, checked}
+use Rattle.arguments.specs.Arguments.{Checked, Lent, queue_needed, checked}
 use Rattle.arguments.specs.Accepted.{CornerInside, SettingsInside, PassInside}
 use Rattle.arguments.specs.declared.Pass.{Pass}
 use Rattle.arguments.specs.declared.Settings.{Settings}
@@ -18,7 +18,7 @@ use Rattle.passes.specs.Grow.{tolerances_of, grow_after}
 use Rattle.passes.specs.Fill.{fill_after}
 use Rattle.passes.specs.Local.{local_after}
 use Rattle.passes.specs.Step.{lent_of}
-use Rattle.passes.specs.Run.{Call, step, run, sheet_of}
+use Rattle.passes.specs.Run.{as_left, handed, Call, step, run, sheet_of}
 use Rattle.passes.specs.declared.PassStats.{PassStats}
 use Rattle.passes.specs.History.{History}
 use Rattle.invariants.specs.Kept.{Kept, Extended, AttachedAt, AttachedInTurn}
@@ -31,8 +31,12 @@ pub record Standing (l : CornerLists) (sheet : List ℕ) : Type 0 where
   pub given : Given (length l.xs) sheet
   pub one_cell : OneCell sheet
 
+-- what a call on a sheet is lent
+abbrev pub lent_call : CornerLists → List ℕ → Call → Lent
+lent_call l sheet c = lent_of l c.shades sheet (handed sheet c.around) c.rooms
+
 abbrev pub checked_call : CornerLists → List ℕ → Call → Checked
-checked_call l sheet c = checked (lent_of l c.shades sheet c.rooms) c.settings c.pass
+checked_call l sheet c = checked (lent_call l sheet c) c.settings c.pass
 
 -- what a call that is not refused does
 abbrev pub answering : {A B : Type 0} → (A → B) → After A → After B
@@ -104,7 +108,7 @@ Invariants = (l : CornerLists) (given : List ℕ) → Standing l given → (cs :
 
 -- ---- no refusal in mid-list
 
--- a call whose numbers are in range and whose buffers are long enough
+-- a call whose numbers are in range, whose buffers are long enough, and which is handed the label box as the last call left it
 pub record CallInside (l : CornerLists) (c : Call) : Type 0 where
   pub few : length l.xs ≤ corner_limit
   pub queue_long : queue_needed c.pass (length l.xs) ≤ c.rooms.queue
@@ -114,6 +118,7 @@ pub record CallInside (l : CornerLists) (c : Call) : Type 0 where
   pub shades_inside : (k : ℕ) → k < length l.xs → get_or c.shades k 0 ≤ 2
   pub settings_inside : SettingsInside c.settings
   pub pass_inside : PassInside c.pass
+  pub box_as_left : c.around ≡ as_left
 
 -- a call on a sheet is not refused
 pub record Accepts (l : CornerLists) (sheet : List ℕ) (c : Call) : Type 0 where
@@ -127,7 +132,7 @@ NeverRefused = (l : CornerLists) (sheet : List ℕ) → Standing l sheet → (cs
 
 -- a call that is lent other shades
 abbrev pub lent_shades : List ℕ → Call → Call
-lent_shades shades c = record { pass = c.pass; settings = c.settings; shades = shades; rooms = c.rooms }
+lent_shades shades c = record { pass = c.pass; settings = c.settings; shades = shades; around = c.around; rooms = c.rooms }
 
 -- shades of all corners, each none or one of the two kinds
 pub record ShadesInside (l : CornerLists) (shades : List ℕ) : Type 0 where

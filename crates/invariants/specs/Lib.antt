@@ -2,4 +2,5 @@
 pub mod Kept
 pub mod Marks
 pub mod Calls
+pub mod Boxes
 pub mod Unshaded

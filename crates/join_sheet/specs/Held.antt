@@ -7,7 +7,9 @@ use Rattle.sheet.specs.Cells.{cell_of, OnSheet, moved, Within}
 use Rattle.sheet.specs.Words.{label_of, label_at, attached, empty_sheet}
 use Rattle.sheet.specs.declared.Cell.{Cell}
 use Rattle.sheet.specs.declared.Offset.{Offset}
+use Rattle.labels.specs.Box.{box_of}
 use Rattle.labels.specs.Used.{names, used_on}
+use Rattle.labels.specs.declared.Bounds.{Bounds}
 use Rattle.refusal.specs.declared.Refusal.{Refusal}
 use Rattle.join.specs.Rule.{Verdict, Placed, shifted_by}
 use Rattle.join.specs.Join.{kept, new_by, verdict_by, Joined, apart, clash, off, union_of}
@@ -97,6 +99,11 @@ pub record HeldSets (sheet : List ℕ) (used : List Bool) (labels : List SecondL
   pub long : place_count ≤ length sheet
   pub unused : Unused sheet used
   pub second : HeldSecond labels
+
+-- the label box that is kept beside a sheet is what a search of it finds
+pub record BoxKept (sheet : List ℕ) (around : Option Bounds) : Type 0 where
+  pub long : place_count ≤ length sheet
+  pub found : around ≡ box_of sheet
 
 -- the second set and a shift that takes no label off the sheet
 pub record WriteAsked (labels : List SecondLabel) (d : Offset) : Type 0 where

@@ -1,5 +1,5 @@
 // Joining two patches (change request 3/14) as code: the first set is a sheet, the second its labels in the order of their lines. The second set is
-// shifted onto the first, and the union is written to the sheet.
+// shifted onto the first, and the union is written to the sheet, with the label box that is kept beside it (5/14).
 
 #![tactic(auto)]
 
@@ -7,13 +7,15 @@ ghost use Rattle.std.specs.Prelude.{◌≡◌, map, false, ◌<◌, ◌≤◌, l
 ghost use Rattle.sizes.specs.Sizes.{place_count, corner_limit};
 ghost use Rattle.sheet.specs.Cells.{cell_of, on_sheet, moved, OnSheet, Within};
 ghost use Rattle.sheet.specs.Words.{label_of};
+ghost use Rattle.labels.specs.Box.{box_of};
 ghost use Rattle.labels.specs.Used.{names};
 ghost use Rattle.join.specs.Rule.{Placed, shifted_by};
 ghost use Rattle.join.specs.Join.{every, asks, asked, tested};
 ghost use Rattle.join.specs.Sheets.{labelled};
-ghost use Rattle.join_sheet.specs.Held.{held_labels, cell_on, agrees_on, new_put, new_held, outcome, verdict_on, join_on, LabelHeld, HeldSecond, Unused, HeldSets, WriteAsked};
+ghost use Rattle.join_sheet.specs.Held.{held_labels, cell_on, agrees_on, new_put, new_held, outcome, verdict_on, join_on, LabelHeld, HeldSecond, Unused, HeldSets, WriteAsked, BoxKept};
 
 use join::{Unjoinable, Verdict};
+use labels::Bounds;
 use refusal::Refusal;
 use sheet::{Cell, Offset, Written};
 use sizes::{CORNERS, PLACES};
@@ -163,40 +165,60 @@ fn verdict_of(first: &First, second: &Second) -> Verdict
     test_shift(first, second, Shift { offset })
 }
 
-// A label whose corner the first set has not is attached.
-#[tactic(auto, unfolding(crate::specs::Held::new_put))]
-fn put_new(sheet: &mut [u16; PLACES], used: &[bool; CORNERS], corner: usize, c: Cell)
-    requires { OnSheet c × (corner < corner_limit) }
-    ensures { sheet.new ≡ new_put (get_or used.now corner false) sheet.old c corner }
+// A label whose corner the first set has not is attached, and the box is widened by its cell.
+#[tactic(auto, using(crate::proofs::Around::put_kept), unfolding(crate::specs::Held::new_put))]
+fn put_new(
+    sheet: &mut [u16; PLACES],
+    around: &mut Option<Bounds>,
+    used: &[bool; CORNERS],
+    corner: usize,
+    c: Cell,
+)
+    requires fits { OnSheet c × (corner < corner_limit) }
+    requires kept { BoxKept sheet.old around.old }
+    ensures written { sheet.new ≡ new_put (get_or used.now corner false) sheet.old c corner }
+    ensures kept { BoxKept sheet.new around.new }
 {
     if !used[corner] {
         sheet::attach(sheet, c, corner);
+        *around = labels::widen(*around, c);
     }
 }
 
-// The labels of the second set whose corners the first has not are attached, moved.
-fn write_new(sheet: &mut [u16; PLACES], used: &[bool; CORNERS], second: &Second, d: Shift)
-    requires { WriteAsked second.now.labels.now d.offset }
-    ensures { sheet.new ≡ labelled sheet.old (new_held used.now (held_labels second.now.labels.now) d.offset) }
+// The labels of the second set whose corners the first has not are attached, moved, and the box is widened by the cell of each.
+fn write_new(
+    sheet: &mut [u16; PLACES],
+    around: &mut Option<Bounds>,
+    used: &[bool; CORNERS],
+    second: &Second,
+    d: Shift,
+)
+    requires onto { WriteAsked second.now.labels.now d.offset }
+    requires kept { BoxKept sheet.old around.old }
+    ensures written { sheet.new ≡ labelled sheet.old (new_held used.now (held_labels second.now.labels.now) d.offset) }
+    ensures kept { BoxKept sheet.new around.new }
 {
     for l in second.labels {
-        put_new(sheet, used, usize::from(l.corner), l.moved_cell(d));
+        put_new(sheet, around, used, usize::from(l.corner), l.moved_cell(d));
     }
 }
 
-// The join: the union is written to the sheet, or the sheet stays as it is and the refusal is answered.
-// Stays: the sheet is lent to write and the other two to read; a struct of them would be made for this one call (d).
+// The join: the union is written to the sheet and the box widened to it, or both stay as they are and the refusal is answered.
+// Stays: the sheet and its box are lent to write and the other two to read; a struct of them would be made for this one call (d).
 pub fn join_sets(
     sheet: &mut [u16; PLACES],
+    around: &mut Option<Bounds>,
     used: &[bool; CORNERS],
     second: &[SecondLabel],
 ) -> Result<(), Refusal>
-    requires { HeldSets sheet.old used.now second.now }
-    ensures { outcome sheet.new result ≡ join_on sheet.old (held_labels second.now) }
+    requires sets { HeldSets sheet.old used.now second.now }
+    requires kept { around.old ≡ box_of sheet.old }
+    ensures joined { outcome sheet.new result ≡ join_on sheet.old (held_labels second.now) }
+    ensures kept { around.new ≡ box_of sheet.new }
 {
     let second = Second { labels: second };
     let first = First { sheet, used };
     let offset = verdict_of(&first, &second)?;
-    write_new(sheet, used, &second, Shift { offset });
+    write_new(sheet, around, used, &second, Shift { offset });
     Ok(())
 }

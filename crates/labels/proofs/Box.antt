@@ -5,8 +5,9 @@ use mathlib.Core.Bool.{Bool, true, false, cond, not}
 use mathlib.Core.List.Memᴰ
 use mathlib.Core.List.{List, [], ◌∷◌, foldl, map, Memᴰ}
 use mathlib.Core.Logic.{◌⊎◌, inl, inr}
-use Prim.Native.Nat.{ℕ}
+use Prim.Native.Nat.{ℕ, ◌<◌, ◌≤◌}
 use lib.Dec.{T}
+use lib.ListN.{length}
 use lib.IntN.{ℤ}
 use Rattle.std.specs.Prelude.{Option, Some, None}
 use lib.Signed.{le_z, lt_z, ◌≤ℤ◌, ≤ℤ_refl}
@@ -22,7 +23,7 @@ use Rattle.labels.proofs.Below.{no_both}
 use Rattle.labels.specs.Labelled.{is_labelled, labelled_cell, LabelledCell, labelled_places, Attaching}
 use Rattle.labels.specs.Box.{Inside, Taken, IsBoxOf, IsBox, lower_of, higher_of, bounds_of, bounds_joined, widened, box_around, box_of}
 use Rattle.labels.proofs.Signed.{le_z_true, le_z_false, ≤ℤ-trans, ≤ℤ-antisym}
-use Rattle.labels.proofs.Labelled.{SamePlaces, same_places, cell_listed, listed_cell, labelled_cell_on, labelled_new, labelled_still, labelled_cases, empty_unlabelled, labels_walked}
+use Rattle.labels.proofs.Labelled.{SamePlaces, same_places, cell_listed, listed_cell, labelled_cell_on, put_new, put_still, put_cases, empty_unlabelled, labels_walked}
 use Rattle.labels.specs.declared.Bounds.{Bounds}
 
 -- ---- the lower and the higher of two numbers
@@ -207,22 +208,25 @@ box_found sheet box h = box_only (LabelledCell sheet) (box_of sheet) box (box_is
 
 -- ---- the box of changed sheets
 
--- What attaching a corner does to the box, and what box a sheet starts with, are for a label box that is kept with the sheet; today each pass
--- finds the box anew.
+-- What attaching a corner does to the box, and what box a sheet starts with, are for the label box that is kept beside the sheet.
 
 pub same_box : (sheet after : List ℕ) → SamePlaces sheet after → box_of after ≡ box_of sheet
 unfolding box_of
 same_box sheet after s = ap box_around (same_places sheet after s)
 
-pub box_attached : {sheet : List ℕ} {c : Cell} {k : ℕ} → Attaching sheet c k → box_of (attached sheet c k) ≡ widened (box_of sheet) c
-box_attached {sheet} {c} {k} a =
+-- a corner attached at any cell of the sheet widens the box by that cell, whatever the cell held
+pub box_put : (sheet : List ℕ) (c : Cell) (k : ℕ) → 16384 ≤ length sheet → OnSheet c → k < 16383 → box_of (attached sheet c k) ≡ widened (box_of sheet) c
+box_put sheet c k long on fits =
     box_found (attached sheet c k) (widened (box_of sheet) c)
-    (box_respects (λ d. (d ≡ c) ⊎ LabelledCell sheet d) (LabelledCell (attached sheet c k)) forth (labelled_cases a) (widened (box_of sheet) c)
+    (box_respects (λ d. (d ≡ c) ⊎ LabelledCell sheet d) (LabelledCell (attached sheet c k)) forth (put_cases sheet c k long on fits) (widened (box_of sheet) c)
     (box_widens (LabelledCell sheet) (box_of sheet) c (box_is sheet)))
   where
     forth : (d : Cell) → (d ≡ c) ⊎ LabelledCell sheet d → LabelledCell (attached sheet c k) d
-    forth d (inl e) = subst (LabelledCell (attached sheet c k)) (sym e) (labelled_new a)
-    forth d (inr l) = labelled_still a d l
+    forth d (inl e) = subst (LabelledCell (attached sheet c k)) (sym e) (put_new sheet c k long on fits)
+    forth d (inr l) = put_still sheet c k long on fits d l
+
+pub box_attached : {sheet : List ℕ} {c : Cell} {k : ℕ} → Attaching sheet c k → box_of (attached sheet c k) ≡ widened (box_of sheet) c
+box_attached {sheet} {c} {k} a = box_put sheet c k a.long a.on a.corner_fits
 
 pub box_empty : box_of empty_sheet ≡ None
 box_empty = box_found empty_sheet None empty_unlabelled
@@ -288,7 +292,10 @@ boxed_same : (r : Option Bounds) → boxed r ≡ r
 boxed_same None = refl
 boxed_same (Some b) = refl
 
-pub box_walked : (sheet : List ℕ) (r : Option Bounds) → reduce bounds_joined (map bounds_of (filter_map labelled_cell (written_from sheet 0))) ≡ r → r ≡ box_of sheet
+-- each cell widens it
+pub box_widened : (sheet : List ℕ) → fold widened None (filter_map labelled_cell (written_from sheet 0)) ≡ box_of sheet
 unfolding box_of
-box_walked sheet r e =
-    sym (boxed_same r) ∙ sym (ap boxed e) ∙ boxed_all (filter_map labelled_cell (written_from sheet 0)) ∙ cells_walked (written_from sheet 0) None ∙ ap box_around (labels_walked sheet)
+box_widened sheet = cells_walked (written_from sheet 0) None ∙ ap box_around (labels_walked sheet)
+
+pub box_walked : (sheet : List ℕ) (r : Option Bounds) → reduce bounds_joined (map bounds_of (filter_map labelled_cell (written_from sheet 0))) ≡ r → r ≡ box_of sheet
+box_walked sheet r e = sym (boxed_same r) ∙ sym (ap boxed e) ∙ boxed_all (filter_map labelled_cell (written_from sheet 0)) ∙ box_widened sheet

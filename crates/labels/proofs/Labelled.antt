@@ -1,7 +1,7 @@
 -- Laws of the labelled cells of a sheet: a cell is labelled exactly if its place is listed; the places rise; what marks keep
 -- and what attaching a corner adds; the count, by a walk over the places that hold something. Assumes nothing.
 use Rattle.std.specs.Prelude.{Option, Some, None}
-use mathlib.Core.Path.{◌≡◌, refl, sym, ap, ◌∙◌}
+use mathlib.Core.Path.{◌≡◌, refl, sym, ap, ◌∙◌, subst}
 use mathlib.Core.Bool.{true, false}
 use mathlib.Core.List.{List, map, Memᴰ}
 use mathlib.Core.Logic.{◌⊎◌, inl, inr}
@@ -15,7 +15,7 @@ use Rattle.sheet.specs.Words.{Content, label_of_number, label_of, word_at, label
 use Rattle.sheet.proofs.Laws.{place_in, cell_on_lem, place_cell, place_one, place_rises}
 use Rattle.sheet.specs.Blank.{written_from}
 use Rattle.sheet.proofs.Blank.{blank_label}
-use Rattle.sheet.proofs.Words.{label_on, labelled_on_lem, no_corner_lem, Changed, attached_changes, hole_changes, ambiguous_changes, cleared_changes, label_here, label_else, empty_word}
+use Rattle.sheet.proofs.Words.{label_on, labelled_on_lem, Changed, attached_changes, hole_changes, ambiguous_changes, cleared_changes, label_here, label_else, empty_word}
 use Rattle.sheet.specs.declared.Cell.{Cell}
 use Rattle.labels.specs.Labelled.{Rising, names_corner, is_labelled, LabelledCell, labelled_places, label_count, Attaching, SameLabels}
 use Rattle.std.specs.List.{filter}
@@ -146,11 +146,38 @@ module _ (sheet : List ℕ) (c : Cell) (long : 16384 ≤ length sheet) (on : OnS
   pub cleared_keeps : SameLabels sheet (marks_cleared sheet c)
   cleared_keeps = changed_labels (cleared_changes sheet c long on) on refl
 
+-- ---- a corner attached at a cell
+
+module _ (sheet : List ℕ) (c : Cell) (k : ℕ) (long : 16384 ≤ length sheet) (on : OnSheet c) (fits : k < 16383) where
+  put : Changed sheet (attached sheet c k) c (record { label = Some k; hole = hole_at sheet c; ambiguous = ambiguous_at sheet c })
+  put = attached_changes sheet c long on k fits
+
+  -- the labelled cells are those before it and this one
+  pub put_new : LabelledCell (attached sheet c k) c
+  put_new = record { corner = k; holds = label_here put on }
+
+  at_place : (d : Cell) → OnSheet d → place_of d ≡ place_of c → d ≡ c
+  at_place d h e = place_one d c h on e
+
+  pub put_still : (d : Cell) → LabelledCell sheet d → LabelledCell (attached sheet c k) d
+  put_still d l = go (ℕ_discrete (place_of d) (place_of c))
+    where
+      go : Dec (place_of d ≡ place_of c) → LabelledCell (attached sheet c k) d
+      go (yes e) = subst (LabelledCell (attached sheet c k)) (sym (at_place d (labelled_cell_on sheet d l) e)) put_new
+      go (no e) = record { corner = l.corner; holds = label_else put on d (λ q. e (ap place_of q)) ∙ l.holds }
+
+  pub put_cases : (d : Cell) → LabelledCell (attached sheet c k) d → (d ≡ c) ⊎ LabelledCell sheet d
+  put_cases d l = go (ℕ_discrete (place_of d) (place_of c))
+    where
+      go : Dec (place_of d ≡ place_of c) → (d ≡ c) ⊎ LabelledCell sheet d
+      go (yes e) = inl (at_place d (labelled_cell_on (attached sheet c k) d l) e)
+      go (no e) = inr (record { corner = l.corner; holds = sym (label_else put on d (λ q. e (ap place_of q))) ∙ l.holds })
+
 -- ---- a corner attached at an unlabelled cell
 
 module _ {sheet : List ℕ} {c : Cell} {k : ℕ} (a : Attaching sheet c k) where
   changes : Changed sheet (attached sheet c k) c (record { label = Some k; hole = hole_at sheet c; ambiguous = ambiguous_at sheet c })
-  changes = attached_changes sheet c a.long a.on k a.corner_fits
+  changes = put sheet c k a.long a.on a.corner_fits
 
   pub label_before : label_of (get_or sheet (place_of c) 0) ≡ None
   label_before = sym (label_on sheet c a.on) ∙ a.bare
@@ -163,20 +190,13 @@ module _ {sheet : List ℕ} {c : Cell} {k : ℕ} (a : Attaching sheet c k) where
 
   -- the labelled cells are those before it and the new one
   pub labelled_new : LabelledCell (attached sheet c k) c
-  labelled_new = record { corner = k; holds = label_here changes a.on }
+  labelled_new = put_new sheet c k a.long a.on a.corner_fits
 
   pub labelled_still : (d : Cell) → LabelledCell sheet d → LabelledCell (attached sheet c k) d
-  labelled_still d l = record { corner = l.corner; holds = label_else changes a.on d ne ∙ l.holds }
-    where
-      ne : d ≡ c → ⊥
-      ne e = no_corner_lem l.corner (sym a.bare ∙ ap (label_at sheet) (sym e) ∙ l.holds)
+  labelled_still = put_still sheet c k a.long a.on a.corner_fits
 
   pub labelled_cases : (d : Cell) → LabelledCell (attached sheet c k) d → (d ≡ c) ⊎ LabelledCell sheet d
-  labelled_cases d l = go (ℕ_discrete (place_of d) (place_of c))
-    where
-      go : Dec (place_of d ≡ place_of c) → (d ≡ c) ⊎ LabelledCell sheet d
-      go (yes e) = inl (place_one d c (labelled_cell_on (attached sheet c k) d l) a.on e)
-      go (no e) = inr (record { corner = l.corner; holds = sym (label_else changes a.on d (λ q. e (ap place_of q))) ∙ l.holds })
+  labelled_cases = put_cases sheet c k a.long a.on a.corner_fits
 
   -- one label more
   pub count_attached : label_count (attached sheet c k) ≡ label_count sheet + 1

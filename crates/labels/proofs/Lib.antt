@@ -4,6 +4,7 @@ pub mod Written
 pub mod Signed
 pub mod Labelled
 pub mod Box
+pub mod Keeping
 pub mod Between
 pub mod Rim
 pub mod Used

@@ -2,6 +2,7 @@
 -- Definitions only.
 pub mod Labelled
 pub mod Box
+pub mod Kept
 pub mod Rim
 pub mod Used
 pub mod Count

@@ -8,9 +8,13 @@ ghost use Rattle.sizes.specs.Sizes.{place_count};
 ghost use Rattle.sheet.specs.Words.{label_of};
 ghost use Rattle.labels.specs.Labelled.{is_labelled, labelled_cell, label_count};
 ghost use Rattle.labels.specs.Box.{widened, box_of, bounds_of, bounds_joined};
+ghost use Rattle.labels.specs.Kept.{same_bounds};
 ghost use Rattle.labels.specs.Rim.{outermost, on_rim, rim, RimAsked};
 ghost use Rattle.labels.specs.Used.{noted, Tied};
 
+mod kept;
+
+pub use kept::KeptBox;
 use sheet::{Cell, Written};
 use sizes::CORNERS;
 
@@ -43,7 +47,7 @@ fn labelled_cell(place_and_word: (usize, u16)) -> Option<Cell>
 }
 
 // The lowest and highest labelled i and j.
-#[derive(Clone, Copy)]
+#[derive(Clone, Copy, Default)]
 pub struct Bounds {
     pub low_i: i32,
     pub high_i: i32,
@@ -62,6 +66,16 @@ impl Bounds {
             low_j: c.j,
             high_j: c.j,
         }
+    }
+
+    // Whether all four numbers are these.
+    fn is(self, other: Bounds) -> bool
+        ensures { result ≡ same_bounds self other }
+    {
+        self.low_i == other.low_i
+            && self.high_i == other.high_i
+            && self.low_j == other.low_j
+            && self.high_j == other.high_j
     }
 
     // The bounds of what is in one of two bounds.

@@ -1,5 +1,5 @@
 -- The rounds of local, one after the other, and the whole call: refused, under four labels, or all rounds done. Assumes nothing.
-use Rattle.std.specs.Prelude.{None, Ok, Err}
+use Rattle.std.specs.Prelude.{Option, None, Ok, Err}
 use mathlib.Core.Path.{◌≡◌, refl, sym, ap, ◌∙◌, subst}
 use mathlib.Core.Bool.{Bool}
 use mathlib.Core.List.{List}
@@ -14,6 +14,9 @@ use Rattle.arguments.specs.Shades.{any_shade, corners_of}
 use Rattle.refusal.specs.declared.Refusal.{Refusal}
 use Rattle.labels.specs.Labelled.{label_count}
 use Rattle.labels.specs.Rim.{rim}
+use Rattle.labels.specs.Kept.{around_of, kept_of, box_kept}
+use Rattle.labels.specs.declared.Bounds.{Bounds}
+use Rattle.labels.specs.declared.kept.KeptBox.{KeptBox}
 use Rattle.labels.specs.Used.{Tied}
 use Rattle.arguments.specs.Arguments.{Checked, checked}
 use Rattle.arguments.specs.Accepted.{Accepted}
@@ -118,9 +121,9 @@ at_start d = λ t. record {
 start_is : {sheet sheet' list list' : List ℕ} {at at' : LocalProgress} → sheet ≡ sheet' → list ≡ list' → at ≡ at' → start_of sheet list at ≡ start_of sheet' list' at'
 start_is s l e = rw (s, l, e)
 
-module _ (corners : CornerLists) (shades sheet list : List ℕ) (set : Settings) (p : LocalExtensionParams) where
+module _ (corners : CornerLists) (shades sheet : List ℕ) (around : KeptBox) (list : List ℕ) (set : Settings) (p : LocalExtensionParams) where
   -- arguments that are not refused
-  module _ (a : Accepted (lent_of corners shades sheet (rooms 0 (length list))) set (Pass.Local p)) where
+  module _ (a : Accepted (lent_of corners shades sheet around (rooms 0 (length list))) set (Pass.Local p)) where
     pub accepted_gatherable : Gatherable sheet
     accepted_gatherable = record { long = a.given.long; few = omega (arith, labels_few a.given a.one_cell, a.few) }
 
@@ -129,10 +132,14 @@ module _ (corners : CornerLists) (shades sheet list : List ℕ) (set : Settings)
     unfolding local_search
     accepted_radius = search_radius p.search_rel set.grid.cell_size a.pass_inside.search a.settings_inside.cell_size
 
+    -- the box that is handed, as it is answered
+    pub accepted_kept : {found : Option Bounds} {kept : KeptBox} → found ≡ around_of around → kept ≡ kept_of found → kept ≡ box_kept sheet
+    accepted_kept f k = k ∙ ap kept_of (f ∙ a.box_right)
+
     -- the pass may go on
-    pub accepted_extending : {before : List ℕ} {used : List Bool} {labelled : Labelled} {at : LocalProgress} → Gathered sheet before labelled.places labelled.count → 4 ≤ labelled.count → Tied sheet used
-        → at ≡ no_progress → Extending (length corners.xs) sheet list used labelled at
-    accepted_extending w h t e =
+    pub accepted_extending : {before : List ℕ} {used : List Bool} {labelled : Labelled} {box : Option Bounds} {at : LocalProgress} → Gathered sheet before labelled.places labelled.count → 4 ≤ labelled.count → Tied sheet used
+        → box ≡ around_of around → at ≡ no_progress → Extending (length corners.xs) sheet list used labelled box at
+    accepted_extending w h t b e =
         record {
           given = a.given;
           one_cell = a.one_cell;
@@ -142,23 +149,25 @@ module _ (corners : CornerLists) (shades sheet list : List ℕ) (set : Settings)
           four = omega (arith, w.count_is);
           labels_are = w.count_is;
           places_are = gathered_front w;
+          around_is = b ∙ a.box_right;
         }
 
-  -- what the answer says of the rim, and of the rounds
-  module _ {labels depth : ℕ} {edge shaded : Bool} {stats : LocalStats} (counted : labels ≡ label_count sheet) (deep : depth ≡ depth_of p)
+  -- what the answer says of the rim and of the rounds, and the box that is left
+  module _ {labels depth : ℕ} {edge shaded : Bool} {stats : LocalStats} {kept : KeptBox} (counted : labels ≡ label_count sheet) (deep : depth ≡ depth_of p)
       (any : shaded ≡ any_shade shades (length corners.xs)) where
     -- under four labels
-    pub pass_few : {at : LocalProgress} → labels < 4 → at ≡ no_progress → edge ≡ rim depth sheet → stats ≡ stats_of at 0 edge shaded
-        → local_out (Ok stats) sheet list ≡ local_leaves (done (local_after (corners_of corners shades) set p sheet)) sheet list
+    pub pass_few : {at : LocalProgress} → labels < 4 → at ≡ no_progress → edge ≡ rim depth sheet → stats ≡ stats_of at 0 edge shaded → kept ≡ box_kept sheet
+        → local_out (Ok (stats, kept)) sheet list ≡ local_leaves (done (local_after (corners_of corners shades) set p sheet)) sheet list
     unfolding local_after local_run local_limit local_from
-    pass_few h g f e = rw (← counted, lt-ltb labels 4 h, e, g, f, deep, any)
+    pass_few h g f e b = rw (← counted, lt-ltb labels 4 h, e, b, g, f, deep, any)
 
     -- all rounds done
     pub pass_done : (cs : Corners) → cs ≡ corners_of corners shades → {before work : LocalWork} {rounds : ℕ} → 4 ≤ labels → before.progress ≡ no_progress
         → before.sheet.now ≡ sheet → before.attached.now ≡ list → RoundsLeft before work rounds (local_from cs set p p.max_iters (start_in before)) → edge ≡ rim depth work.sheet.now
-        → stats ≡ stats_of work.progress rounds edge shaded → {sheet' list' : List ℕ} → sheet' ≡ work.sheet.now → list' ≡ work.attached.now → local_out (Ok stats) sheet' list' ≡ local_leaves (done (local_after (corners_of corners shades) set p sheet)) sheet list
+        → stats ≡ stats_of work.progress rounds edge shaded → kept ≡ box_kept work.sheet.now → {sheet' list' : List ℕ} → sheet' ≡ work.sheet.now → list' ≡ work.attached.now
+        → local_out (Ok (stats, kept)) sheet' list' ≡ local_leaves (done (local_after (corners_of corners shades) set p sheet)) sheet list
     unfolding local_after local_run local_limit
-    pass_done cs held h m sh li l' f e es el =
+    pass_done cs held h m sh li l' f e b es el =
         let l = l' in
         let run = ap (local_from cs set p p.max_iters) (start_is sh li m) in
         rw (
@@ -168,6 +177,7 @@ module _ (corners : CornerLists) (shades sheet list : List ℕ) (set : Settings)
           ← counted,
           le-ltb labels 4 h,
           e,
+          b,
           f,
           deep,
           any,
@@ -186,17 +196,17 @@ module _ (corners : CornerLists) (shades sheet list : List ℕ) (set : Settings)
   -- what it promises of its answer and its buffers, and of what the answer says
   abbrev pub Promised : LocalOut → Type 0
   Promised out =
-      let o = local_step corners shades sheet set p (rooms 0 (length list)) in
+      let o = local_step corners shades sheet around set p (rooms 0 (length list)) in
       (out ≡ local_leaves o sheet list) × (local_said out.answer ≡ outcome_due local_values o)
 
-  promised : {out : LocalOut} → out ≡ local_leaves (local_step corners shades sheet set p (rooms 0 (length list))) sheet list → Promised out
+  promised : {out : LocalOut} → out ≡ local_leaves (local_step corners shades sheet around set p (rooms 0 (length list))) sheet list → Promised out
   promised e = (e, local_said_lem _ sheet list _ e)
 
   -- its check refuses it, or lets it pass
-  module _ (check : Checked) (is : check ≡ checked (lent_of corners shades sheet (rooms 0 (length list))) set (Pass.Local p)) where
+  module _ (check : Checked) (is : check ≡ checked (lent_of corners shades sheet around (rooms 0 (length list))) set (Pass.Local p)) where
     leaves_refused : (r : Refusal) → check ≡ Err r
         → local_out (Err r) sheet list
-        ≡ local_leaves (local_step corners shades sheet set p (rooms 0 (length list))) sheet list
+        ≡ local_leaves (local_step corners shades sheet around set p (rooms 0 (length list))) sheet list
     unfolding local_step
     leaves_refused r e = rw (← is, e)
 
@@ -204,10 +214,10 @@ module _ (corners : CornerLists) (shades sheet list : List ℕ) (set : Settings)
     call_refused r e = promised (leaves_refused r e)
 
     module _ (e : check ≡ Ok tt) where
-      pub call_accepted : Accepted (lent_of corners shades sheet (rooms 0 (length list))) set (Pass.Local p)
-      call_accepted = accepted (lent_of corners shades sheet (rooms 0 (length list))) set (Pass.Local p) (sym is ∙ e)
+      pub call_accepted : Accepted (lent_of corners shades sheet around (rooms 0 (length list))) set (Pass.Local p)
+      call_accepted = accepted (lent_of corners shades sheet around (rooms 0 (length list))) set (Pass.Local p) (sym is ∙ e)
 
-      leaves_done : (out : LocalOut) → out ≡ local_leaves (done (local_after (corners_of corners shades) set p sheet)) sheet list → out ≡ local_leaves (local_step corners shades sheet set p (rooms 0 (length list))) sheet list
+      leaves_done : (out : LocalOut) → out ≡ local_leaves (done (local_after (corners_of corners shades) set p sheet)) sheet list → out ≡ local_leaves (local_step corners shades sheet around set p (rooms 0 (length list))) sheet list
       unfolding local_step
       leaves_done out h = rw (← is, e) h
 

@@ -21,6 +21,7 @@ ghost use Rattle.local_cell.specs.Work.{held, state_in, SamePass, Left, RecallsI
 ghost use Rattle.local.specs.Rounds.{RoundOf, tried_at, RoundAsked, start_in, RoundsAsked, RoundsLeft, stats_of};
 
 use arguments::{LentCorners, LocalExtensionParams, Pass, Settings};
+use labels::KeptBox;
 use local_cell::{LocalProgress, LocalSetup, LocalWork};
 use passes::LocalStats;
 use refusal::Refusal;
@@ -56,12 +57,12 @@ impl Round {
     }
 }
 
-// What a round walks that starts with the sheet of now.
+// What a round walks that starts with the sheet of now: by the box of now, while the kept one widens.
 fn round_of(work: &LocalWork) -> Round
     ensures { RoundOf work.now.sheet.now work.now.setup.params result }
 {
     let labelled = work.labelled.as_slice();
-    let around = labels::label_box(work.sheet);
+    let around = work.around;
     let depth = depth_of(work.setup.params);
     Round {
         region: Region {
@@ -140,15 +141,17 @@ fn stats_of(progress: LocalProgress, rounds: usize, rim: bool, shaded: bool) -> 
     }
 }
 
-// The pass itself, on arguments that are not refused: all rounds if there are four labels, else none, and what the answer says of them.
+// The pass itself, on arguments that are not refused: all rounds if there are four labels, else none, what the answer says of them, and the box
+// of the labels that are left.
 fn local_accepted(
     corners: LentCorners,
     sheet: &mut [u16],
+    around: KeptBox,
     attached: &mut [u16],
     settings: Settings,
     params: LocalExtensionParams,
-) -> LocalStats
-    requires { Accepted (lent_of (lists_of corners) corners.shades.now sheet.old (rooms 0 (length attached.old)))
+) -> (LocalStats, KeptBox)
+    requires { Accepted (lent_of (lists_of corners) corners.shades.now sheet.old around (rooms 0 (length attached.old)))
         settings (Pass.Local params) }
     ensures { local_out (Ok result) sheet.new attached.new
         ≡ local_leaves (done (local_after (corners_of (lists_of corners.entry) corners.entry.shades.now)
@@ -161,7 +164,9 @@ fn local_accepted(
     let labels = labelled.count;
     let progress = LocalProgress::default();
     if labels < 4 {
-        return stats_of(progress, 0, labels::rim_reached(sheet, depth), shaded);
+        let stats = stats_of(progress, 0, labels::rim_reached(sheet, depth), shaded);
+        let left = KeptBox::of(around.around());
+        return (stats, left);
     }
     let mut held = NO_CORNERS;
     corners.hold(&mut held);
@@ -177,11 +182,13 @@ fn local_accepted(
         attached,
         used,
         labelled,
+        around: around.around(),
         memory: Memory::new(),
         progress,
     };
     let rounds = local_rounds(&mut work);
-    stats_of(work.progress, rounds, rim_of(&work, depth), shaded)
+    let stats = stats_of(work.progress, rounds, rim_of(&work, depth), shaded);
+    (stats, KeptBox::of(work.around))
 }
 
 // Extends the labels by local fits: each round walks, by i then j, the unlabelled cells of the label box, of strips of the depth on labelled rows
@@ -189,7 +196,8 @@ fn local_accepted(
 // residuals is above the gate; a corner of its kind that is found is attached, and both marks of its cell are cleared. A round that attaches nothing
 // is the last, and under four labels there is none. The attached list holds the new cells' places in order at its front, its rest untouched; no other mark
 // changes. The answer has the four counts, the number of rounds, the largest residual recorded, the rim, and, if any shade stands, how many
-// corners were passed over for their kind. A refused call changes nothing and answers why. `said` is the same answer in 01's number or values.
+// corners were passed over for their kind; behind them stands the label box of the sheet that is left. The box that is handed is the sheet's, else
+// the call is refused. A refused call changes nothing and answers why. `said` is the same answer in 01's number or values.
 // Stays: the public calls of the passes lend slice by slice, as 01 has it and as the C interface does (a).
 pub fn extend_via_local_homography(
     xs: &[f32],
@@ -197,16 +205,17 @@ pub fn extend_via_local_homography(
     pitches: &[f32],
     shades: &[u8],
     sheet: &mut [u16],
+    around: KeptBox,
     attached: &mut [u16],
     settings: Settings,
     params: LocalExtensionParams,
-) -> Result<LocalStats, Refusal>
+) -> Result<(LocalStats, KeptBox), Refusal>
     ensures attached_after { local_out result sheet.new attached.new
-        ≡ local_leaves (local_step (corner_lists xs.now ys.now pitches.now) shades.now sheet.old
+        ≡ local_leaves (local_step (corner_lists xs.now ys.now pitches.now) shades.now sheet.old around
         settings params (rooms 0 (length attached.old))) sheet.old attached.old }
     ensures said { local_said result ≡ outcome_due local_values (local_step
         (corner_lists xs.now ys.now pitches.now) shades.now
-        sheet.old settings params (rooms 0 (length attached.old))) }
+        sheet.old around settings params (rooms 0 (length attached.old))) }
 {
     let corners = LentCorners {
         xs,
@@ -217,10 +226,11 @@ pub fn extend_via_local_homography(
     arguments::check_arguments(
         corners,
         sheet,
+        around,
         0,
         attached.len(),
         settings,
         Pass::Local(params),
     )?;
-    Ok(local_accepted(corners, sheet, attached, settings, params))
+    Ok(local_accepted(corners, sheet, around, attached, settings, params))
 }

@@ -14,6 +14,7 @@ use Rattle.sheet.specs.declared.Cell.{Cell}
 use Rattle.sheet.specs.declared.Corner.{Corner}
 use Rattle.sheet.specs.declared.Position.{Position}
 use Rattle.labels.specs.Labelled.{label_count, Attaching}
+use Rattle.labels.specs.declared.Bounds.{Bounds}
 use Rattle.arguments.specs.declared.Settings.{Settings}
 use Rattle.arguments.specs.declared.LocalExtensionParams.{LocalExtensionParams}
 use Rattle.candidates.specs.Candidates.{last_distance}
@@ -50,12 +51,13 @@ use Rattle.local_cell.proofs.Visit.{nearby, supports_are, untouched, extending_a
 -- ---- a cell of which nothing is known
 
 -- how far a support is can be noted
-pub reaches_small : {n : ℕ} {sheet list : List ℕ} {used : List Bool} {labelled : Labelled} {at : LocalProgress} (c : Cell) {near : List Support} → Extending n sheet list used labelled at → OnSheet c
+pub reaches_small : {n : ℕ} {sheet list : List ℕ} {used : List Bool} {labelled : Labelled} {around : Option Bounds} {at : LocalProgress} (c : Cell) {near : List Support}
+    → Extending n sheet list used labelled around at → OnSheet c
     → near ≡ nearest_among c (take labelled.count labelled.places) → (nth near 3).reach < 8192
 reaches_small c f on e = nearest_small (nearby f c on) e
 
 module _ (set : Settings) (p : LocalExtensionParams) {cs : Corners} {sheet list : List ℕ} {work : LocalWork} (c : Cell)
-    (f : Extending cs.count sheet list work.used work.labelled work.progress) (on : OnSheet c) (r : Recalls set p cs sheet work) (near : List Support)
+    (f : Extending cs.count sheet list work.used work.labelled work.around work.progress) (on : OnSheet c) (r : Recalls set p cs sheet work) (near : List Support)
     (nearest : near ≡ nearest_among c (take work.labelled.count work.labelled.places)) {found : Option SupportFit}
     (is : found ≡ support_fit_of (local_fit (seen_of cs.corner sheet) (places_of near))) where
   supports : places_of near ≡ supports_of c sheet
@@ -71,7 +73,7 @@ module _ (set : Settings) (p : LocalExtensionParams) {cs : Corners} {sheet list 
   module _ (e : found ≡ None) where
     pub none_left : {at' : LocalProgress} → at' ≡ work.progress → Holds (local_visit cs set p c (state_of sheet list work.progress)) list sheet list at'
     none_left same =
-        untouched (extending_as f refl refl (ap (λ (x : LocalProgress). x.counts.attached) same))
+        untouched (extending_as f refl refl refl (ap (λ (x : LocalProgress). x.counts.attached) same))
         (visit_none cs set p c (state_of sheet list work.progress) _ of (fit_none _ is e) ∙ ap (state_of sheet list) (sym same))
 
     pub none_recalls : {work' : LocalWork} → work'.progress ≡ work.progress → Noted work.memory c (Some (record { reach = (nth near 3).reach; finding = Finding.Idle })) work'.memory → Recalls set p cs sheet work'
@@ -103,8 +105,8 @@ module _ (set : Settings) (p : LocalExtensionParams) {cs : Corners} {sheet list 
       within_visit f = rw (f, mapped) (visit_fitted cs set p c (state_of sheet list work.progress) _ of _ _ has within)
 
     module _ {at' : LocalProgress} (z : at' ≡ residuals_recorded work.progress fit.residuals) where
-      recorded : Extending cs.count sheet list work.used work.labelled at'
-      recorded = extending_as f refl refl (ap (λ (x : LocalProgress). x.counts.attached) z)
+      recorded : Extending cs.count sheet list work.used work.labelled work.around at'
+      recorded = extending_as f refl refl refl (ap (λ (x : LocalProgress). x.counts.attached) z)
 
       few : at'.unmatched ≤ 1024 * visits at'.counts
       few = rw z r.unmatched_few

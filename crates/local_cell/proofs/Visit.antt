@@ -18,7 +18,10 @@ use Rattle.sheet.specs.declared.Position.{Position}
 use Rattle.sheet.proofs.Corners.{given_attached, given_cleared}
 use Rattle.sheet.proofs.Words.{attached_changes, cleared_changes}
 use Rattle.labels.specs.Labelled.{labelled_places, label_count, Attaching}
+use Rattle.labels.specs.Box.{widened, box_of}
 use Rattle.labels.specs.Used.{used_on, Tied, OneCell}
+use Rattle.labels.specs.declared.Bounds.{Bounds}
+use Rattle.labels.proofs.Box.{same_box, box_attached}
 use Rattle.labels.proofs.Labelled.{places_rise, places_in_lem, count_attached, labels_places, same_count}
 use Rattle.labels.proofs.Used.{tied_attached, tied_cleared, one_attached, one_cleared}
 use Rattle.positions_policy.specs.declared.Tolerances.{Tolerances}
@@ -101,6 +104,10 @@ module _ {sheet : List ℕ} {c : Cell} {k : ℕ} (a : Attaching sheet c k) where
   pub clear_count : label_count (attached_clear sheet c k) ≡ label_count sheet + 1
   clear_count = same_count (attached sheet c k) (attached_clear sheet c k) (labels_places (clear_labels a)) ∙ count_attached a
 
+  -- and the box has the cell more
+  pub clear_box : box_of (attached_clear sheet c k) ≡ widened (box_of sheet) c
+  clear_box = same_box (attached sheet c k) (attached_clear sheet c k) (labels_places (clear_labels a)) ∙ box_attached a
+
   module _ {n : ℕ} (given : Given n sheet) (there : k < n) where
     pub clear_given : Given n (attached_clear sheet c k)
     clear_given = given_cleared (given_attached given c a.on k there a.corner_fits) c a.on
@@ -144,7 +151,7 @@ module _ (sheet : List ℕ) (c : Cell) (k : ℕ) {first second : List ℕ} (e : 
 
 -- ---- the supports
 
-module _ {n : ℕ} {sheet list : List ℕ} {used : List Bool} {labelled : Labelled} {at : LocalProgress} (f : Extending n sheet list used labelled at) where
+module _ {n : ℕ} {sheet list : List ℕ} {used : List Bool} {labelled : Labelled} {around : Option Bounds} {at : LocalProgress} (f : Extending n sheet list used labelled around at) where
   front_long : length (take labelled.count labelled.places) ≡ label_count sheet
   unfolding label_count
   front_long = ap length f.places_are
@@ -171,7 +178,7 @@ pub left_as : {s after : LocalState} {before sheet list : List ℕ} {at : LocalP
     → Holds s before sheet list at → Holds after before sheet list at
 left_as e l = rw e l
 
-module _ {n : ℕ} {sheet list : List ℕ} {used : List Bool} {labelled : Labelled} {at : LocalProgress} (f : Extending n sheet list used labelled at) where
+module _ {n : ℕ} {sheet list : List ℕ} {used : List Bool} {labelled : Labelled} {around : Option Bounds} {at : LocalProgress} (f : Extending n sheet list used labelled around at) where
   pub made_few : at.counts.attached ≤ n
   made_few = omega (arith, f.room, labels_few f.given f.one_cell)
 
@@ -191,9 +198,9 @@ module _ {n : ℕ} {sheet list : List ℕ} {used : List Bool} {labelled : Labell
       }
 
   -- the same buffers, with as many attached and labelled
-  pub extending_as : {used' : List Bool} {labelled' : Labelled} {at' : LocalProgress} → used' ≡ used → labelled' ≡ labelled → at'.counts.attached ≡ at.counts.attached
-      → Extending n sheet list used' labelled' at'
-  extending_as u p m =
+  pub extending_as : {used' : List Bool} {labelled' : Labelled} {around' : Option Bounds} {at' : LocalProgress} → used' ≡ used → labelled' ≡ labelled → around' ≡ around
+      → at'.counts.attached ≡ at.counts.attached → Extending n sheet list used' labelled' around' at'
+  extending_as u p b m =
       record {
         given = f.given;
         one_cell = f.one_cell;
@@ -203,9 +210,10 @@ module _ {n : ℕ} {sheet list : List ℕ} {used : List Bool} {labelled : Labell
         four = f.four;
         labels_are = rw p f.labels_are;
         places_are = rw p f.places_are;
+        around_is = b ∙ f.around_is;
       }
 
-pub untouched : {n : ℕ} {sheet list : List ℕ} {used : List Bool} {labelled : Labelled} {at : LocalProgress} {after : LocalState} → Extending n sheet list used labelled at → after ≡ state_of sheet list at → Holds after list sheet list at
+pub untouched : {n : ℕ} {sheet list : List ℕ} {used : List Bool} {labelled : Labelled} {around : Option Bounds} {at : LocalProgress} {after : LocalState} → Extending n sheet list used labelled around at → after ≡ state_of sheet list at → Holds after list sheet list at
 untouched f e = rw e (stands f)
 
 module _ {work : LocalWork} {c : Cell} {k : ℕ} (t : Taking work c k) where
@@ -262,10 +270,10 @@ module _ {work : LocalWork} {c : Cell} {k : ℕ} (t : Taking work c k) where
       })
 
   -- and all may go on
-  pub took_extending : {first second : List ℕ} (place : ℕ) {labelled' : Labelled} {at' : LocalProgress} → first ≡ attached work.sheet.now c k → second ≡ marks_cleared first c
-      → Gathered second work.labelled.places labelled'.places labelled'.count → at'.counts ≡ one_more (Ok k) work.progress.counts
-      → Extending work.setup.corners.now.count.number second (set work.attached.now work.progress.counts.attached place) (set work.used k true) labelled' at'
-  took_extending place {labelled'} {at'} e g w h =
+  pub took_extending : {first second : List ℕ} (place : ℕ) {labelled' : Labelled} {around' : Option Bounds} {at' : LocalProgress} → first ≡ attached work.sheet.now c k → second ≡ marks_cleared first c
+      → Gathered second work.labelled.places labelled'.places labelled'.count → around' ≡ widened work.around c → at'.counts ≡ one_more (Ok k) work.progress.counts
+      → Extending work.setup.corners.now.count.number second (set work.attached.now work.progress.counts.attached place) (set work.used k true) labelled' around' at'
+  took_extending place {labelled'} {around'} {at'} e g w b h =
       let f = work.extending in
       let m : at'.counts.attached ≡ work.progress.counts.attached + 1 = ap (λ (x : Counts). x.attached) h in
       let is = both_changes work.sheet.now c k e g in
@@ -280,6 +288,7 @@ module _ {work : LocalWork} {c : Cell} {k : ℕ} (t : Taking work c k) where
         four = omega (arith, f.four, clear_count taking_attaching);
         labels_are = w'.count_is;
         places_are = gathered_front w';
+        around_is = b ∙ ap (λ (x : Option Bounds). widened x c) f.around_is ∙ sym (clear_box taking_attaching);
       })
 
 -- ---- by what was found
@@ -304,11 +313,11 @@ taking {work} {c} {k} tol search prediction t e g =
     let w = attachable (held work) work.sheet.now tol search c prediction k (sym e ∙ g) in
     record { trying = t; there = w.given; free = w.free }
 
-module _ {n : ℕ} {sheet list : List ℕ} {used : List Bool} {labelled : Labelled} {at : LocalProgress} (f : Extending n sheet list used labelled at) {at' : LocalProgress} where
+module _ {n : ℕ} {sheet list : List ℕ} {used : List Bool} {labelled : Labelled} {around : Option Bounds} {at : LocalProgress} (f : Extending n sheet list used labelled around at) {at' : LocalProgress} where
   -- no corner: the cell is counted, and nothing is written
   module _ (c : Cell) {q r : TryCellResult} (d : r ≡ q) (is : at' ≡ cell_counted at r) where
     counted : (s : LocalState) → (cell_counted at r).counts.attached ≡ at.counts.attached → s ≡ state_of sheet list (cell_counted at r) → Holds s list sheet list at'
-    counted s m e = rw is (untouched (extending_as f refl refl m) e)
+    counted s m e = rw is (untouched (extending_as f refl refl refl m) e)
 
     pub found_none : r ≡ Err NotAttached.NoCandidates → Holds (local_with c q (state_of sheet list at)) list sheet list at'
     unfolding local_with
@@ -323,8 +332,8 @@ module _ {n : ℕ} {sheet list : List ℕ} {used : List Bool} {labelled : Labell
     found_refused g = counted _ (rw g) (rw (← d, g))
 
   -- and all may go on
-  pub counted_extending : (r : TryCellResult) → at' ≡ cell_counted at r → (one_more r at.counts).attached ≡ at.counts.attached → Extending n sheet list used labelled at'
-  counted_extending r is m = rw is (extending_as f refl refl m)
+  pub counted_extending : (r : TryCellResult) → at' ≡ cell_counted at r → (one_more r at.counts).attached ≡ at.counts.attached → Extending n sheet list used labelled around at'
+  counted_extending r is m = rw is (extending_as f refl refl refl m)
 
 pub found_corner : {work : LocalWork} (c : Cell) {q r : TryCellResult} → r ≡ q → {k : ℕ} {sheet' list' : List ℕ} {work' : LocalWork} → Taking work c k → r ≡ Ok k
     → Wrote work.sheet.now work.attached.now work c k sheet' list' work' → Holds (local_with c q (state_in work)) work.attached.now sheet' list' work'.progress

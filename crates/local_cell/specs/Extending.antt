@@ -1,11 +1,13 @@
 -- Where the code of local stands, in the terms of local's definition (crate passes, Local). Definitions only.
-use Rattle.std.specs.Prelude.{◌≡◌, Bool, true, false, List, ℕ, ◌+◌, ◌<◌, ◌≤◌, length, take, Some, Float}
+use Rattle.std.specs.Prelude.{◌≡◌, Bool, true, false, List, ℕ, ◌+◌, ◌<◌, ◌≤◌, length, take, Option, Some, Float}
 use Rattle.sizes.specs.Sizes.{corner_limit}
 use Rattle.sheet.specs.Words.{attached, marks_cleared, SheetCell}
 use Rattle.sheet.specs.Corners.{Given}
 use Rattle.sheet.specs.declared.Cell.{Cell}
 use Rattle.labels.specs.Labelled.{labelled_places, label_count}
+use Rattle.labels.specs.Box.{box_of}
 use Rattle.labels.specs.Used.{Tied, OneCell}
+use Rattle.labels.specs.declared.Bounds.{Bounds}
 use Rattle.extension_common.specs.TryCell.{TryCellResult}
 use Rattle.passes.specs.Counting.{one_more, visits}
 use Rattle.passes.specs.Local.{recorded_all, LocalState}
@@ -39,8 +41,9 @@ state_of sheet list at =
     record { sheet = sheet; made = take at.counts.attached list; counts = at.counts; largest = at.residual; unmatched = at.unmatched }
 
 -- what holds between two cells: the sheet belongs to the corners, no corner is at two cells, the array says which are used, the attached list has
--- a place for each corner, no more places of it are written than there are labels, there are four labels, and the labelled places are listed
-pub record Extending (n : ℕ) (sheet list : List ℕ) (used : List Bool) (labelled : Labelled) (at : LocalProgress) : Type 0 where
+-- a place for each corner, no more places of it are written than there are labels, there are four labels, the labelled places are listed, and the
+-- box is what a search of the sheet finds
+pub record Extending (n : ℕ) (sheet list : List ℕ) (used : List Bool) (labelled : Labelled) (around : Option Bounds) (at : LocalProgress) : Type 0 where
   pub given : Given n sheet
   pub one_cell : OneCell sheet
   pub tied : Tied sheet used
@@ -49,6 +52,7 @@ pub record Extending (n : ℕ) (sheet list : List ℕ) (used : List Bool) (label
   pub four : 4 ≤ label_count sheet
   pub labels_are : labelled.count ≡ label_count sheet
   pub places_are : take labelled.count labelled.places ≡ labelled_places sheet
+  pub around_is : around ≡ box_of sheet
 
 -- the buffers hold a state: its sheet, its new cells at the front of the attached list, whose rest is as it was before, its counts, its largest
 -- residual and its corners passed over

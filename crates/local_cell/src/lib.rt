@@ -14,6 +14,7 @@ ghost use Rattle.local_cell.specs.Extending.{cell_counted, residuals_recorded, u
 use arguments::{LocalExtensionParams, Settings};
 use candidates::{Candidates, HeldCorners, Scan};
 use extension_common::{ChoiceRule, NotAttached, Search, Trial, TryCellResult};
+use labels::Bounds;
 use passes::Counts;
 use remembered::{Finding, Known, Memory};
 use sheet::{Cell, CornerArrays, Position, Seeing};
@@ -37,8 +38,8 @@ pub struct LocalSetup<'c> {
     pub params: LocalExtensionParams,
 }
 
-// A pass: what it is given; the lent sheet; the lent attached list; which corners are used; the labelled places; what is remembered of the cells; and
-// how far it has come. It is lent to each function, since it is large.
+// A pass: what it is given; the lent sheet; the lent attached list; which corners are used; the labelled places; the label box; what is remembered of
+// the cells; and how far it has come. It is lent to each function, since it is large.
 #[derive(Drop)]
 pub struct LocalWork<'c, 'a> {
     pub setup: LocalSetup<'c>,
@@ -46,9 +47,10 @@ pub struct LocalWork<'c, 'a> {
     pub attached: &'a mut [u16],
     pub used: [bool; CORNERS],
     pub labelled: Labelled,
+    pub around: Option<Bounds>,
     pub memory: Memory,
     pub progress: LocalProgress,
-    ghost extending: { Extending setup.corners.now.count.number sheet.now attached.now used labelled progress },
+    ghost extending: { Extending setup.corners.now.count.number sheet.now attached.now used labelled around progress },
 }
 
 // A cell that is to be tried where its fit maps it to: how far its fourth support is, and the prediction.
@@ -168,7 +170,7 @@ impl<'c, 'a> LocalWork<'c, 'a> {
     ghost use Rattle.local_cell.specs.Work.{held, state_in, SamePass, Left, RecallsIn, Trying, ForetoldIn, Taking, WroteIn};
 
     // Attaches a corner to a cell and clears both of its marks: the sheet, the next place of the attached list and the corner's entry are written,
-    // the labelled places are listed anew, and what the new label may change is forgotten.
+    // the labelled places are listed anew, the label box is widened, and what the new label may change is forgotten.
     fn attach_corner(&mut self, c: Cell, k: usize, corner: Position)
         requires { Taking self.old c k }
         ensures same { SamePass self.old self.new }
@@ -181,6 +183,7 @@ impl<'c, 'a> LocalWork<'c, 'a> {
         sheet::clear_marks(sheet, c);
         self.used[k] = true;
         self.labelled.gather(sheet);
+        self.around = labels::widen(self.around, c);
         self.memory.forget_near(c, corner);
         self.progress.count_cell(Ok(k));
     }

@@ -3,7 +3,7 @@ use mathlib.Core.Path.{◌≡◌, ap}
 use mathlib.Core.List.{List}
 use Prim.Native.Nat.{ℕ}
 use Rattle.passes.specs.Outcome.{Outcome, refused, done}
-use Rattle.passes.specs.Step.{GrowOut, grow_out, grow_leaves, FillOut, fill_out, fill_leaves, LocalOut, local_out, local_leaves}
+use Rattle.passes.specs.Step.{GrowOut, grow_leaves, FillOut, fill_leaves, LocalOut, local_leaves}
 use Rattle.passes.specs.Said.{grow_values, fill_values, local_values, grow_said, fill_said, local_said, outcome_due}
 use Rattle.passes.specs.declared.GrowStats.{GrowStats}
 use Rattle.passes.specs.declared.FillStats.{FillStats}

@@ -1,6 +1,6 @@
 -- Fill (document 01, "Sheet": "each round walks, by i then j, the unlabelled cells of the label box and one strip along each whole side";
 -- shared/fill.rs). Definitions only.
-use Rattle.std.specs.Prelude.{Bool, true, false, not, ◌&&◌, ◌||◌, List, [], ◌∷◌, ◌++◌, ℕ, zero, suc, max, length, ℤ, pos, ◌+ℤ◌, ◌-ℤ◌, Float, Option, Some, None, Ok, Err}
+use Rattle.std.specs.Prelude.{Bool, false, not, ◌&&◌, ◌||◌, List, [], ◌∷◌, ◌++◌, ℕ, zero, suc, max, length, ℤ, pos, ◌+ℤ◌, ◌-ℤ◌, Option, Some, None, Ok, Err}
 use Rattle.std.specs.Int.Signed.{le_z}
 use Rattle.std.specs.Float.{binary32}
 use Rattle.std.specs.Float.Ieee.{mul}

@@ -1,10 +1,10 @@
 -- Local (document 01, "Sheet": "the box, strips of the depth on labelled rows and columns only, and four corner blocks. Supports are the 4
 -- nearest by |di|+|dj|, then i, then j."; shared/extension/local.rs; document 02, 1/14: what it passes over). Definitions only.
 use Rattle.sheet.specs.declared.Corner.{Corner}
-use Rattle.std.specs.Prelude.{Bool, true, false, not, ◌&&◌, ◌||◌, cond, List, [], ◌∷◌, ◌++◌, map, ℕ, ◌+◌, max, eqb, ltb, length, get_or, take, ℤ, Some, None, Float, Option, Ok, Err}
+use Rattle.std.specs.Prelude.{Bool, true, false, not, ◌&&◌, ◌||◌, cond, List, [], ◌∷◌, ◌++◌, map, ℕ, ◌+◌, max, eqb, ltb, take, ℤ, Some, None, Float, Option, Ok, Err}
 use Rattle.std.specs.Float.{nan, binary32}
 use Rattle.std.specs.Float.Ieee.{of_bits, of_int, mul, lt}
-use Rattle.binary32.specs.Ranges.{is_finite, all_finite}
+use Rattle.binary32.specs.Ranges.{all_finite}
 use Rattle.binary32.specs.Sqrt.{sqrt_or_nan}
 use Rattle.sheet.specs.Cells.{place_of, cell_of, difference_of, magnitude_of, eq_z, earlier}
 use Rattle.sheet.specs.Words.{label_at, attached, marks_cleared}

@@ -1,9 +1,13 @@
 -- What the answers of the passes say, in document 01's numbers and values ("Frame and result": "Grow: attached, no candidate, ambiguous, edge, rim.
--- Fill: added, rounds, rim. Local: grow's four, rounds, largest residual or `none`, rim."; document 02, 1/14: unmatched). Definitions only.
-use Rattle.std.specs.Prelude.{List, [], ◌∷◌, Option, None, Some, ℕ, Float, Ok, Err}
+-- Fill: added, rounds, rim. Local: grow's four, rounds, largest residual or `none`, rim."; document 02, 1/14: unmatched; 5/14: the label box behind
+-- them). Definitions only.
+use Rattle.std.specs.Prelude.{List, [], ◌∷◌, ◌++◌, Option, None, Some, ℕ, Float, Ok, Err}
 use Rattle.refusal.specs.Refusal.{number_of}
 use Rattle.refusal.specs.Said.{Value, whole, float, yes_or_no, none, Said, number, values}
+use Rattle.labels.specs.declared.kept.KeptBox.{KeptBox}
+use Rattle.arguments.specs.Around.{box_values}
 use Rattle.passes.specs.Outcome.{Outcome, refused, done, Answer}
+use Rattle.passes.specs.Step.{box_left}
 use Rattle.passes.specs.declared.Counts.{Counts}
 use Rattle.passes.specs.declared.GrowStats.{GrowStats}
 use Rattle.passes.specs.declared.FillStats.{FillStats}
@@ -57,20 +61,21 @@ local_values s =
 
 -- ---- each answer by its cases
 
-unfoldable pub grow_said : Answer GrowStats → Said
+unfoldable pub grow_said : Answer (GrowStats × KeptBox) → Said
 grow_said (Err r) = number (number_of r)
-grow_said (Ok s) = values (grow_values s)
+grow_said (Ok (s, around)) = values (grow_values s ++ box_values around)
 
-unfoldable pub fill_said : Answer FillStats → Said
+unfoldable pub fill_said : Answer (FillStats × KeptBox) → Said
 fill_said (Err r) = number (number_of r)
-fill_said (Ok s) = values (fill_values s)
+fill_said (Ok (s, around)) = values (fill_values s ++ box_values around)
 
-unfoldable pub local_said : Answer LocalStats → Said
+unfoldable pub local_said : Answer (LocalStats × KeptBox) → Said
 local_said (Err r) = number (number_of r)
-local_said (Ok s) = values (local_values s)
+local_said (Ok (s, around)) = values (local_values s ++ box_values around)
 
--- ---- what an answer is due to say: the number of the refusal that the definition of the call gives, or the values of the pass
+-- ---- what an answer is due to say: the number of the refusal that the definition of the call gives, or the values of the pass and of the box
+-- that it leaves
 
 unfoldable pub outcome_due : {A : Type 0} → (A → List Value) → Outcome A → Said
 outcome_due values_of (refused r) = number (number_of r)
-outcome_due values_of (done a) = values (values_of a.answer)
+outcome_due values_of (done a) = values (values_of a.answer ++ box_values (box_left a))

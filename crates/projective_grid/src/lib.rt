@@ -10,6 +10,7 @@ pub use binary32::root::sqrt;
 pub use arguments::{FillParams, GrowParams, LocalExtensionParams, Settings};
 pub use fill::fill_grid_holes;
 pub use grow_extend::extend_from_labelled;
+pub use labels::{Bounds, KeptBox};
 pub use local::extend_via_local_homography;
 pub use passes::{Counts, FillStats, GrowStats, LocalStats};
 pub use predict::{Grid, Vector};

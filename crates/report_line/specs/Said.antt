@@ -3,7 +3,7 @@
 use Rattle.std.specs.Prelude.{◌≡◌, true, false, List, [], ◌∷◌, ◌++◌, ℕ, pos, take, drop, None, Some}
 use Rattle.std.specs.Float.{binary32}
 use Rattle.std.specs.Float.Ieee.{to_bits}
-use Rattle.refusal.specs.Said.{Value, whole, float, yes_or_no, none}
+use Rattle.refusal.specs.Said.{Value, whole, signed, float, yes_or_no, none}
 use Rattle.binary32.specs.Hex.{hex_text}
 use Rattle.line_form.specs.Forms.{bytes}
 use Rattle.line_form.specs.Integers.{integer_text}
@@ -16,6 +16,7 @@ use Rattle.report_line.specs.Result.{grow_line, fill_line, local_line, local_lin
 -- a value in a line
 unfoldable pub value_text : Value → List ℕ
 value_text (whole n) = integer_text (pos n)
+value_text (signed z) = integer_text z
 value_text (float x) = hex_text (to_bits binary32 x)
 value_text (yes_or_no true) = bytes "yes"
 value_text (yes_or_no false) = bytes "no"

@@ -17,6 +17,6 @@ pub returns : goal.returns
 returns c =
     let a = c.args in
     let l = a.corners in
-    pass_done (corner_lists l.xs.now l.ys.now l.pitches.now) l.shades.now a.sheet.now a.attached.now a.settings a.params
+    pass_done (corner_lists l.xs.now l.ys.now l.pitches.now) l.shades.now a.sheet.now a.around a.attached.now a.settings a.params
     c.hold.ensures refl refl refl refl refl
-    (c.round_limit-limit.ensures ∙ ap (λ (n : ℕ). fill_limit n a.params.max_iters) c.label_count.ensures) c.fill_rounds-rounds.ensures c.stats.ensures (search rules) (search rules)
+    (c.round_limit-limit.ensures ∙ ap (λ (n : ℕ). fill_limit n a.params.max_iters) c.label_count.ensures) c.fill_rounds-rounds.ensures c.stats.ensures c.of.ensures (search rules) (search rules)

@@ -18,11 +18,11 @@ run-requires c =
     let l = a.corners in
     let d = c.default.ensures in
     let none : c.default.result ≡ no_counts = λ t. record { attached = d.0 t; rejected_no_candidate = d.1.0 t; rejected_ambiguous = d.1.1.0 t; rejected_edge = d.1.1.1 t } in
-    call_startable (corner_lists l.xs.now l.ys.now l.pitches.now) a.settings a.params l.shades.now a.sheet.now a.queue.now a.attached.now c.requires (ap (λ (x : Corners). x.count) c.hold.ensures) refl c.new-queue.ensures.empty refl none
+    call_startable (corner_lists l.xs.now l.ys.now l.pitches.now) a.settings a.params l.shades.now a.sheet.now a.around a.queue.now a.attached.now c.requires (ap (λ (x : Corners). x.count) c.hold.ensures) refl c.new-queue.ensures.empty refl none
 
 pub returns : goal.returns
 returns c =
     let a = c.args in
     let l = a.corners in
-    call_left (corner_lists l.xs.now l.ys.now l.pitches.now) a.settings a.params l.shades.now a.sheet.now a.queue.now a.attached.now c.requires
-    c.hold.ensures refl refl refl c.new-queue.ensures.empty.places_are refl c.run.ensures c.stats.ensures (search rules) (search rules) (search rules)
+    call_left (corner_lists l.xs.now l.ys.now l.pitches.now) a.settings a.params l.shades.now a.sheet.now a.around a.queue.now a.attached.now c.requires
+    c.hold.ensures refl refl refl c.new-queue.ensures.empty.places_are refl c.run.ensures c.stats.ensures c.of.ensures (search rules) (search rules) (search rules)

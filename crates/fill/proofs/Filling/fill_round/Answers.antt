@@ -5,7 +5,7 @@ use Rattle.fill.proofs.Walk.{walking_start, walking_more, walking_jumps, walking
 use Rattle.fill.proofs.Filling.fill_round.Goals as goal
 
 pub window_of-window-requires : goal.window_of-window-requires
-window_of-window-requires c = rw c.label_box-around.ensures (box_on _)
+window_of-window-requires c = rw c.args.self.now.around_is (box_on _)
 
 pub loop-place-init : goal.loop-place-init
 loop-place-init c =
@@ -21,11 +21,11 @@ loop-place-preserved c =
       windowed = rw s.2.window_is i.windowed;
       walking =
           rw s.2.from_is
-          (walking_more c.args.self.now (walking_jumps c.args.self.now c.loop-place.self _ _ c.label_box-around.ensures i.windowed i.walking s.0) _ s.1
-          c.label_box-around.ensures c.fill_place.ensures);
+          (walking_more c.args.self.now (walking_jumps c.args.self.now c.loop-place.self _ _ c.args.self.now.around_is i.windowed i.walking s.0) _ s.1
+          c.args.self.now.around_is c.fill_place.ensures);
     }
 
 pub returns : goal.returns
 returns c =
     let i = c.loop-place.invariant in
-    walking_end c.args.self.now (walking_jumps c.args.self.now c.loop-place.self _ _ c.label_box-around.ensures i.windowed i.walking c.in-None.ensures.steps) (omega arith)
+    walking_end c.args.self.now (walking_jumps c.args.self.now c.loop-place.self _ _ c.args.self.now.around_is i.windowed i.walking c.in-None.ensures.steps) (omega arith)

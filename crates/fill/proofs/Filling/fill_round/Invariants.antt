@@ -6,6 +6,6 @@ use Rattle.fill.proofs.Filling.fill_round.Given as goal
 
 abbrev pub invariant-loop-place : goal.invariant-loop-place
 invariant-loop-place l = record {
-  windowed : Windowed 1 l.around l.place-iterator.window;
+  windowed : Windowed 1 l.fn.self.around l.place-iterator.window;
   walking : Walking l.fn.self l.self l.place-iterator.from;
 }

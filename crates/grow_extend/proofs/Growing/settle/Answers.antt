@@ -2,11 +2,14 @@
 use mathlib.Core.Path.{refl}
 use mathlib.Core.Logic.{inl, inr}
 use Rattle.labels.proofs.Used.{tied_ambiguous}
-use Rattle.grow_extend.proofs.Laws.{given_ambiguous, settled_hole, settled_ambiguous, settled_as}
+use Rattle.grow_extend.proofs.Laws.{given_ambiguous, boxed_ambiguous, settled_hole, settled_ambiguous, settled_as}
 use Rattle.grow_extend.proofs.Growing.settle.Goals as goal
 
 pub invariant_of-self-clause-given : goal.invariant_of-self-clause-given
 invariant_of-self-clause-given c = rw c.mark_ambiguous.ensures (given_ambiguous c.args.self.now c.args.c c.requires.on)
+
+pub invariant_of-self-clause-boxed : goal.invariant_of-self-clause-boxed
+invariant_of-self-clause-boxed c = rw c.mark_ambiguous.ensures (boxed_ambiguous c.args.self.now c.args.c c.requires.on)
 
 pub invariant_of-self-clause-tied : goal.invariant_of-self-clause-tied
 invariant_of-self-clause-tied c = let g = c.args.self.now in rw c.mark_ambiguous.ensures (tied_ambiguous g.sheet.now c.args.c g.given.long c.requires.on g.tied)

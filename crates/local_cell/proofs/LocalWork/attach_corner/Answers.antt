@@ -17,4 +17,4 @@ pub gather-requires : goal.gather-requires
 gather-requires c = gatherable _ _ _ c.attach.ensures c.clear_marks.ensures (taking_writable c.requires)
 
 pub invariant_of-self-2 : goal.invariant_of-self-2
-invariant_of-self-2 c = record { extending = took_extending c.requires _ c.attach.ensures c.clear_marks.ensures c.gather.ensures (ap (λ (x : LocalProgress). x.counts) c.count_cell.ensures) }
+invariant_of-self-2 c = record { extending = took_extending c.requires _ c.attach.ensures c.clear_marks.ensures c.gather.ensures c.widen-self.ensures (ap (λ (x : LocalProgress). x.counts) c.count_cell.ensures) }
