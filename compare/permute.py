@@ -6,15 +6,18 @@ for demand 3", tried on our program.
 
 after `rt run` in crates/passes_main and crates/recover. A case is a frame and a list of 0 to 6 calls, each
 with a cell size, axes, a band, shades and buffer lengths of its own; calls that
-are refused stand anywhere. Every call that runs has a factor above 1, down to
+are refused stand anywhere. Each call is handed a label box (02, 5/14): the one
+that the last call left, as such or by its five numbers, or a wrong one, which is
+refused with 3. Every call that runs has a factor above 1, down to
 the next float. The corner lines are put into K other orders and the labels
 renumbered; the shades lent to each call are relisted with the corners, so that
 both corners of a pair have the same kind or none. The pairing of the corners is
 the one that renumbers the labels, also where two corner lines are equal. After
 every call these are compared, corners through the pairing: refusal number; pass
 line with all counts, rounds, residual and rim; local's unmatched line; visited
-cells and attached lists in order; every cell and mark; sums over the whole
-queue and the whole list. With --model the first order is also compared with
+cells and attached lists in order; the answered box; every cell and mark; sums
+over the whole queue and the whole list. The answered box has to be what a search
+of the printed cells finds. With --model the first order is also compared with
 reference.py, call by call.
 
 Then the same cases are run with every factor exactly 1, which demand 3 leaves
@@ -48,6 +51,7 @@ import sys
 import time
 from collections import Counter
 
+import call_lists
 import generate
 import reference as ref
 import words
@@ -60,18 +64,13 @@ ABOVE_ONE = generate.beside(1.0, 1)
 # ---- Cases ----------------------------------------------------------------
 
 
-class Call:
-    def __init__(self, kind, settings, numbers, lent, shades):
-        self.kind = kind
-        self.settings = settings  # cell, axes, band
-        self.numbers = list(numbers)
-        self.lent = dict(lent)
-        self.shades = list(shades)  # a byte for each corner
-        self.refused = None  # the number that it has to be refused with
+class Call(ref.Call):
+    refused = None  # the number that it has to be refused with
+    for_its_box = False  # and for nothing else
 
     def copy(self):
-        other = Call(self.kind, self.settings, self.numbers, self.lent, self.shades)
-        other.refused = self.refused
+        other = Call(self.kind, self.settings, self.numbers, self.lent, self.shades, self.around)
+        other.refused, other.for_its_box = self.refused, self.for_its_box
         return other
 
     def relisted(self, order):
@@ -80,19 +79,10 @@ class Call:
         other.shades = [self.shades[old] for old in order]
         return other
 
-    def words(self):
-        return words.call_words(self.kind, self.settings, self.numbers, self.lent)
 
-
-class Case:
+class Case(call_lists.List):
     def __init__(self, corners, labels, calls):
-        self.corners = corners  # (x, y, pitch)
-        self.labels = labels  # (corner, cell)
-        self.calls = calls
-
-    def words(self):
-        calls = [call.words() for call in self.calls]
-        return words.list_words(self.corners, self.labels, calls, 2, [call.shades for call in self.calls])
+        super().__init__(corners, labels, calls, True)
 
     def reordered(self, order, relisted=True):
         """Corner `order[k]` stands on line k, with its shades."""
@@ -109,6 +99,7 @@ class Case:
         for call in calls:
             if call.refused is None:
                 call.numbers[1] = factor
+                call.around = ref.AS_LEFT  # another factor may leave another box
         return Case(self.corners, self.labels, calls)
 
 
@@ -292,6 +283,54 @@ def a_case(rng):
     return family, Case(list(zip(frame.x, frame.y, frame.pitch)), frame.labels, some_calls(rng, frame))
 
 
+# ---- Boxes ----------------------------------------------------------------
+
+PAST = [0, -65, -65, 0, 0]  # a box of no sheet
+
+
+def wrong_box(rng, right, others):
+    """A box that differs from this one, which is as it is answered."""
+    way = rng.choice(["number", "number", "number", "mark", "another", "ends"])
+    wild = [rng.choice([0, 1, -1, 64, -65, 2**31 - 1, -(2**31)]) for _ in range(4)]
+    others = [other for other in others if other != right]
+    if way == "another" and others:
+        return rng.choice(others)
+    if right[0]:
+        return [0] + rng.choice([[0] * 4, wild])
+    if way == "mark":
+        return [rng.choice([1, 1, 2, -1])] + rng.choice([right[1:], [0] * 4, wild])
+    if way == "ends" and (right[1] < right[2] or right[3] < right[4]):
+        return [0, right[2], right[1], right[4], right[3]]
+    at = rng.randrange(1, 5)
+    return right[:at] + [right[at] + rng.choice([-1, 1, -1, 1, 128, -128, 65536])] + right[at + 1 :]
+
+
+def same_box(rng, right):
+    """The same box: an empty one has any numbers."""
+    if right[0]:
+        return [rng.choice([1, 1, 2, -1])] + [rng.choice([0, 1, -1, 64, 2**31 - 1, -(2**31)]) for _ in range(4)]
+    return right
+
+
+def hand_boxes(rng, case):
+    """Hands some calls a wrong box, which is refused with 3, and some the right
+    one by its numbers. Where calls are refused for another reason too, either
+    box is handed. What the sheet is like before a call is found by running the
+    list once, refused calls among the others."""
+    for call in case.calls:
+        if rng.random() < 0.15:
+            call.around = PAST
+            if call.refused is None:
+                call.refused, call.for_its_box = 3, True
+    (blocks,) = answers([case])
+    boxes = [box_of(cell for _, cell in case.labels)] + [box_of(cells_of(block)) for block in blocks]
+    for call, right in zip(case.calls, boxes):
+        if call.around == PAST:
+            call.around = wrong_box(rng, right, boxes)
+        elif rng.random() < 0.4:
+            call.around = same_box(rng, right)
+
+
 def orders(rng, n, count):
     """All lines turned round, so that of any two the other comes first; then
     any order; now and then two lines changed only."""
@@ -340,30 +379,22 @@ def answers(cases):
     return found
 
 
-def modelled(case):
-    """What reference.py says of each call, without the sums. A refused call is
-    answered with its number; which one, a_case has said."""
-    blocks = []
-    frame = ref.Frame()
-    frame.x, frame.y, frame.pitch = (list(part) for part in zip(*case.corners)) if case.corners else ([], [], [])
-    frame.numbered = list(zip(range(len(frame.x)), frame.x, frame.y))
-    frame.labels = case.labels
-    sheet = frame.given()
-    for number, call in enumerate(case.calls):
-        frame.passes.append((call.kind, tuple(call.numbers)))
-        lent = ref.lent_shades((call.shades + [0] * 1025)[: call.lent["shades"]], len(frame.x))
-        if call.refused is not None:
-            answer = ref.Answer(f"(refused {lent if lent == ref.SHORT else call.refused})", [])
-        else:
-            frame.cell, frame.axes, frame.band = call.settings
-            frame.shades = lent
-            answer = ref.run_pass(frame, sheet, number)
-        blocks.append(ref.pass_text(frame, number, answer, sheet).splitlines())
-    return blocks
+def cells_of(block):
+    """The labelled cells that stand in a call's lines."""
+    return {tuple(map(int, line.split(" ")[1:3])) for line in block if line.startswith("cell ")}
 
 
-def without_sums(block):
-    return [line for line in block if not line.startswith(("queue ", "list "))]
+def box_of(cells):
+    """The label box as a call answers it."""
+    sheet = ref.Sheet()
+    sheet.corner = dict.fromkeys(cells)
+    return list(ref.box_answered(sheet.search()))
+
+
+def box_is_found(block):
+    """Whether the box of an accepted call is the one around its printed cells."""
+    boxes = [line for line in block if line.startswith("box ")]
+    return boxes == ["box " + " ".join(map(str, box_of(cells_of(block))))]
 
 
 def through(pairing, block):
@@ -399,6 +430,7 @@ class Tally:
         self.wrong = 0
         self.at_one = 0
         self.modelled = 0
+        self.boxes = Counter()  # how calls are handed theirs, and what becomes of them
         self.shaded = 0  # cases with a shade in a call that runs
         self.in_place = 0  # of those, where it is seen that shades were not relisted
 
@@ -410,6 +442,8 @@ class Tally:
 
     def call(self, call, block):
         line = block[1]
+        handed = "as left" if call.around == ref.AS_LEFT else "an empty one" if call.around[0] else "by its numbers"
+        self.boxes[handed, "refused for it" if call.for_its_box else "refused" if call.refused else "run"] += 1
         if line.startswith("(refused "):
             self.calls[call.kind, line.strip("()")] += 1
             return
@@ -436,6 +470,7 @@ class Tally:
         print("what those that ran did:")
         for (kind, what), n in sorted(self.work.items()):
             print(f"  {kind} {what}: {n}")
+        print("boxes handed:", ", ".join(f"{handed}, {what}: {n}" for (handed, what), n in sorted(self.boxes.items())))
         compared = ", ".join(f"{n} {kind}" for kind, n in sorted(self.compared.items()))
         print(f"calls compared with another order: {sum(self.compared.values())} ({compared}); wrong: {self.wrong}")
         print(f"with every factor exactly 1: {self.at_one} of {cases} cases differ")
@@ -472,6 +507,9 @@ class Run:
             if call.kind == "local" and call.refused is None and any(call.shades) != block[2].startswith("(unmatched "):
                 self.wrong(name, f"call {number} local: an unmatched line without a shade, or none with one", [case])
                 return
+            if call.refused is None and not box_is_found(block):
+                self.wrong(name, f"call {number} {call.kind}: a box that a search does not find", [case])
+                return
             self.tally.call(call, block)
         if self.options.model:
             self.with_model(name, case, first)
@@ -485,8 +523,8 @@ class Run:
 
     def with_model(self, name, case, first):
         self.tally.modelled += len(case.calls)
-        for number, (block, model) in enumerate(zip(first, modelled(case)), 1):
-            if without_sums(block) != model:
+        for number, (block, model) in enumerate(zip(first, case.answers()), 1):
+            if block != model:
                 self.wrong(name, f"call {number} differs from reference.py", [case])
                 return
 
@@ -635,6 +673,7 @@ def main():
     for k in range(options.count):
         rng = random.Random(f"permute {options.seed} {k}")
         family, case = a_case(rng)
+        hand_boxes(random.Random(f"boxes {options.seed} {k}"), case)
         run.tally.case(family, case)
         run.case(f"{options.seed}-{k}-{family}", case, rng)
     run.tally.print(options.count, options.shuffles)

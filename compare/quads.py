@@ -105,7 +105,7 @@ def panel(rng, noise):
     for i in range(i0, i0 + width):
         for j in range(j0, j0 + height):
             if rng.random() >= missing:
-                sheet.corner[i, j] = len(at)
+                sheet.label((i, j), len(at))
                 (point,) = noisy(rng, [picture.of((i, j))], noise)
                 at.append((rnd(point[0]), rnd(point[1])))
     return sheet, at

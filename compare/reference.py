@@ -1,6 +1,6 @@
 #!/usr/bin/env python3
 """An executable model of the specification (01), with requests 1/14 to 3/14
-of the list of requests (02), written from their text.
+and 5/14 of the list of requests (02), written from their text.
 
     reference.py < FRAME              01's result text, or (refused number line)
     reference.py --passes < FRAME     the sheet after every pass, as text
@@ -73,22 +73,31 @@ def on_sheet(cell):
 
 
 class Sheet:
-    """Which corner a cell holds, and both marks."""
+    """Which corner a cell holds, both marks, and beside them the label box (02,
+    5/14), which each new label widens."""
 
     def __init__(self):
         self.corner = {}
         self.holes = set()
         self.ambiguous = set()
+        self.around = None
 
     def copy(self):
         other = Sheet()
         other.corner = dict(self.corner)
         other.holes = set(self.holes)
         other.ambiguous = set(self.ambiguous)
+        other.around = self.around
         return other
 
-    def box(self):
-        """Lowest and highest labelled i, lowest and highest labelled j."""
+    def label(self, cell, corner):
+        self.corner[cell] = corner
+        self.around = widened(self.around, cell)
+
+    def search(self):
+        """The label box that is found by looking at every cell."""
+        if not self.corner:
+            return None
         i = [cell[0] for cell in self.corner]
         j = [cell[1] for cell in self.corner]
         return min(i), max(i), min(j), max(j)
@@ -112,6 +121,34 @@ class Watch:
     def decided(self, *what):
         if self.decisions is not None:
             self.decisions.append(what)
+
+
+# ---- Label box (02, 5/14) -------------------------------------------------
+#
+# Lowest and highest labelled i, lowest and highest labelled j, or None for an
+# empty one. Handed to a call and answered by it are five numbers: a mark and
+# these four.
+
+
+def widened(around, cell):
+    """The box with one cell more in it."""
+    i, j = cell
+    if around is None:
+        return i, i, j, j
+    i0, i1, j0, j1 = around
+    return min(i0, i), max(i1, i), min(j0, j), max(j1, j)
+
+
+def box_handed(five):
+    """02, 5/14: "with a mark for an empty one, whose numbers then count for
+    nothing"."""
+    mark, *numbers = five
+    return None if mark else tuple(numbers)
+
+
+def box_answered(around):
+    """Of an empty box the mark, and zeros."""
+    return (1, 0, 0, 0, 0) if around is None else (0, *around)
 
 
 # ---- Step, neighbour, prediction ------------------------------------------
@@ -420,13 +457,15 @@ def supported_fit(frame, sheet, supports):
 
 class Answer:
     """A pass line, the new cells in order, for grow the visited ones and, for
-    local where any shade stands, the corners passed over for their kind."""
+    local where any shade stands, the corners passed over for their kind. A
+    library call answers the label box too, as five numbers."""
 
     def __init__(self, line, attached, visited=None, unmatched=None):
         self.line = line
         self.attached = attached
         self.visited = visited
         self.unmatched = unmatched
+        self.box = None
 
     def lines(self):
         """What the result says of the pass."""
@@ -475,7 +514,7 @@ def grow(frame, sheet, numbers, watch):
             edge += 1
             sheet.holes.add(cell)
         else:
-            sheet.corner[cell] = choice
+            sheet.label(cell, choice)
             attached.append((cell, choice))
             enqueue(cell)
     rim = yes_no(sheet.rim(1))
@@ -489,7 +528,7 @@ def grow(frame, sheet, numbers, watch):
 def fill_cells(sheet):
     """The unlabelled cells of the label box and one strip along each whole
     side, by i, then j."""
-    i0, i1, j0, j1 = sheet.box()
+    i0, i1, j0, j1 = sheet.around
     cells = [
         (i, j)
         for i in range(i0 - 1, i1 + 2)
@@ -519,7 +558,7 @@ def fill(frame, sheet, numbers, watch):
             if choice is None or choice is AMBIGUOUS:
                 continue
             if passes_edges(frame, sheet, cell, choice, watch):
-                sheet.corner[cell] = choice
+                sheet.label(cell, choice)
                 attached.append((cell, choice))
         if len(attached) == before:
             break
@@ -533,7 +572,7 @@ def fill(frame, sheet, numbers, watch):
 def local_cells(sheet, depth):
     """The unlabelled cells of the box, strips of the depth on labelled rows
     and columns only, and four corner blocks, by i, then j."""
-    i0, i1, j0, j1 = sheet.box()
+    i0, i1, j0, j1 = sheet.around
     with_i = {i for i, _ in sheet.corner}
     with_j = {j for _, j in sheet.corner}
 
@@ -595,7 +634,7 @@ def local(frame, sheet, numbers, watch):
             elif not passes_edges(frame, sheet, cell, choice, watch):
                 edge += 1
             else:
-                sheet.corner[cell] = choice
+                sheet.label(cell, choice)
                 sheet.holes.discard(cell)
                 sheet.ambiguous.discard(cell)
                 attached.append((cell, choice))
@@ -632,6 +671,87 @@ def lent_shades(shades, n):
     if any(byte > 2 for byte in shades[:n]):
         return WILD
     return {corner: byte - 1 for corner, byte in enumerate(shades[:n]) if byte}
+
+
+AS_LEFT = "as left"  # the box that is handed is the one beside the sheet
+
+
+class Call:
+    """A library call: its pass and the numbers of it; cell size, axes and band;
+    the shades and how many places of each buffer it is lent; the box that it is
+    handed, five numbers or as left."""
+
+    def __init__(self, kind, settings, numbers, lent, shades, around=AS_LEFT):
+        self.kind = kind
+        self.settings = settings  # cell, axes, band
+        self.numbers = list(numbers)
+        self.lent = dict(lent)  # of ys, pitches, sheet, queue, attached, shades
+        self.shades = list(shades)  # a byte for each corner
+        self.around = around
+
+    def box(self, sheet):
+        return box_answered(sheet.around) if self.around == AS_LEFT else self.around
+
+    def kinds(self, n):
+        """What is lent past a byte for each corner is 0."""
+        more = [0] * (self.lent["shades"] - len(self.shades))
+        return lent_shades((self.shades + more)[: self.lent["shades"]], n)
+
+
+def outside(value, least, most):
+    return not least <= value <= most  # also where it is not a number
+
+
+def number_outside(frame, call):
+    """A number out of range: a corner's, cell size, axes, band or the pass's."""
+    cell, axes, band = call.settings
+    corners = zip(frame.x, frame.y, frame.pitch)
+    return (
+        any(outside(x, *POSITION) or outside(y, *POSITION) or outside(p, *PITCH) for x, y, p in corners)
+        or outside(cell, *CELL)
+        or any(outside(part, *AXIS) for axis in axes for part in axis)
+        or outside(band, *BAND)
+        or any(outside(value, *ends) for value, (_, *ends) in zip(call.numbers, _RANGES[call.kind]))
+    )
+
+
+def refusal(frame, sheet, call):
+    """01: "The library tries 7, 2, 3, 5, 6"; 02, 5/14: "A library call handed a
+    sheet and a box that differs from it gets 3". None if it is accepted."""
+    n = len(frame.x)
+    kinds = call.kinds(n)
+    needed = {"ys": n, "pitches": n, "sheet": 16384, "attached": n}
+    if call.kind == "grow":
+        needed["queue"] = 4 * n
+    if kinds == SHORT or any(call.lent[name] < least for name, least in needed.items()):
+        return SHORT
+    if n > 1024:
+        return OVERFULL
+    if kinds == WILD or number_outside(frame, call):
+        return WILD
+    if box_handed(call.box(sheet)) != sheet.search():
+        return WILD
+    corners = list(sheet.corner.values())
+    if any(corner >= n for corner in corners):
+        return STRANGER
+    if len(set(corners)) < len(corners):
+        return DOUBLED
+    return None
+
+
+def library_call(frame, sheet, call):
+    """Runs a call on the frame's corners and the sheet, which it changes unless
+    it is refused. The answer, or the refusal's number."""
+    number = refusal(frame, sheet, call)
+    if number is not None:
+        return number
+    frame.cell, frame.axes, frame.band = call.settings
+    frame.shades = call.kinds(len(frame.x))
+    frame.passes.append((call.kind, tuple(call.numbers)))
+    sheet.around = box_handed(call.box(sheet))
+    answer = run_pass(frame, sheet, len(frame.passes) - 1)
+    answer.box = box_answered(sheet.around)
+    return answer
 
 
 # ---- Joining two patches --------------------------------------------------
@@ -689,6 +809,7 @@ class Frame:
         self.sets = [[]]  # of labels (corner, cell), in the order of their lines
         self.patch = None  # the patch line's number; behind it the second set
         self.labels = []  # the given ones: the first set, or both joined
+        self.around = None  # the label box of the given ones
         self.shades = {}  # kind by corner, of those that have a shade
         self.passes = []  # (kind, numbers)
         self.numbered = []  # (corner, x, y)
@@ -704,6 +825,7 @@ class Frame:
         sheet = Sheet()
         for corner, cell in self.labels:
             sheet.corner[cell] = corner
+        sheet.around = self.around
         return sheet
 
 
@@ -758,6 +880,8 @@ _BARE = {
     "grow": (rnd(0.35), 1.5, 1.25),  # 02, 2/14: a boundary multiple of 1.25
     "fill": (rnd(0.35), 1.5, 1),
 }
+POSITION, PITCH, CELL = (-16384, 16384), (0, 16384), (2.0**-10, 16384)
+AXIS, BAND = (-4, 4), (0, 4)
 # How each of a pass's numbers is read, its least and its most.
 _MULTIPLE, _FACTOR = (_float, 0, 16), (_float, 0, 1000)
 _ROUNDS, _DEPTH = (_whole, 0, 64), (_whole, 0, 4)
@@ -776,6 +900,8 @@ def read(data):
         frame.labels = join(*frame.sets)
         if frame.labels in (APART, CLASH, OFF_SHEET):
             raise NotJoined(frame.labels, frame.patch)
+        for _, cell in frame.labels[len(frame.sets[0]) :]:  # those that are new
+            frame.around = widened(frame.around, cell)
     return frame
 
 
@@ -825,8 +951,8 @@ def _form_of(line):
 
 def _floats(match, line, *ranges):
     values = [_float(group) for group in match.groups()]
-    for value, (least, most) in zip(values, ranges):
-        if not least <= value <= most:  # also where it is not a number
+    for value, ends in zip(values, ranges):
+        if outside(value, *ends):
             raise Refused(WILD, line)
     return values
 
@@ -836,19 +962,18 @@ def _read_head(frame, kind, line, number):
     if not match:
         raise Refused(BENT, number)
     if kind == "cell":
-        (frame.cell,) = _floats(match, number, (2.0**-10, 16384))
+        (frame.cell,) = _floats(match, number, CELL)
     elif kind == "axes":
-        a, b, c, d = _floats(match, number, *[(-4, 4)] * 4)
+        a, b, c, d = _floats(match, number, *[AXIS] * 4)
         frame.axes = ((a, b), (c, d))
     elif kind == "band":
-        (frame.band,) = _floats(match, number, (0, 4))
+        (frame.band,) = _floats(match, number, BAND)
 
 
 def _read_corner(frame, match, number):
     if len(frame.x) == 1024:
         raise Refused(OVERFULL, number)
-    position = (-16384, 16384)
-    x, y, pitch = _floats(match, number, position, position, (0, 16384))
+    x, y, pitch = _floats(match, number, POSITION, POSITION, PITCH)
     frame.x.append(x)
     frame.y.append(y)
     frame.pitch.append(pitch)
@@ -864,6 +989,8 @@ def _read_label(frame, match, number):
     if any(corner == other or (i, j) == cell for other, cell in frame.sets[-1]):
         raise Refused(DOUBLED, number)
     frame.sets[-1].append((corner, (i, j)))
+    if frame.patch is None:
+        frame.around = widened(frame.around, (i, j))
 
 
 def _read_shade(frame, match, number):
@@ -888,7 +1015,7 @@ def _read_pass(frame, kind, match, number):
     values = []
     for group, (value_of, least, most) in zip(match.groups(), _RANGES[kind]):
         value = value_of(group)
-        if not least <= value <= most:
+        if outside(value, least, most):
             raise Refused(WILD, number)
         values.append(value)
     frame.passes.append((kind, tuple(values)))
@@ -920,10 +1047,16 @@ def result_text(pass_lines, sheet):
 
 def pass_text(frame, number, answer, sheet):
     """One pass in the form that the comparing program reads."""
-    lines = [f"pass {number + 1} {frame.passes[number][0]}"] + answer.lines()
+    return answer_text(f"pass {number + 1} {frame.passes[number][0]}", answer, sheet)
+
+
+def answer_text(heading, answer, sheet):
+    lines = [heading] + answer.lines()
     if answer.visited is not None:
         lines += [f"visited {i} {j}" for i, j in answer.visited]
     lines += [f"attached {i} {j} {corner}" for (i, j), corner in answer.attached]
+    if answer.box is not None:
+        lines.append("box " + " ".join(str(part) for part in answer.box))
     for (i, j), corner in sorted(sheet.corner.items()):
         lines.append(f"cell {i} {j} {corner}")
     lines += [f"hole {i} {j}" for i, j in sorted(sheet.holes)]

@@ -147,7 +147,7 @@ def sheet_of(lines):
         word, *numbers = line.split(" ")
         if word == "cell":
             i, j, corner = map(int, numbers)
-            sheet.corner[(i, j)] = corner
+            sheet.label((i, j), corner)
         elif word == "hole":
             sheet.holes.add(tuple(map(int, numbers)))
         elif word == "ambiguous":

@@ -1,12 +1,14 @@
 #!/usr/bin/env python3
 """Shows that the comparison sees slips: reference.py is changed in one place,
 taken as our side, and compared with the Rust until a pass that 01 compares
-differs, or what is refused for two sets that are not joined.
+differs, or what is refused for two sets that are not joined. A slip of a library
+call's label box (02, 5/14), which the Rust does not have, is looked for in the
+cases of refusals.py: the changed model answers one of them otherwise.
 
     slips.py [--seed S] [--count N] [NAME ...]
 
-For each slip it prints after how many frames the Rust showed it. Ends with
-'N seen, 0 unseen'. Not tried here are changes that 01's exclusions cover: a
+For each slip it prints after how many frames the Rust showed it, or in which
+case. Ends with 'N seen, 0 unseen'. Not tried here are changes that 01's exclusions cover: a
 candidate at the radius itself, and what lies off the sheet or on its rim.
 """
 
@@ -17,6 +19,7 @@ import tempfile
 import types
 
 import generate
+import refusals
 import run
 
 HERE = os.path.dirname(os.path.abspath(__file__))
@@ -329,6 +332,18 @@ SLIPS = {
         "raise NotJoined(frame.labels, frame.patch)",
         "raise NotJoined(frame.labels, data.count(b\"\\n\"))",
     ),
+    "a label read without the box": (
+        "        frame.around = widened(frame.around, (i, j))\n",
+        "        frame.around = frame.around or widened(None, (i, j))\n",
+    ),
+    "a joined label without the box": (
+        "        for _, cell in frame.labels[len(frame.sets[0]) :]:",
+        "        for _, cell in []:",
+    ),
+    "a label of the second set in the box as it was read": (
+        "    if frame.patch is None:\n        frame.around =",
+        "    if True:\n        frame.around =",
+    ),
     "row sums right to left": (
         "        left = rnd(rnd(row[0] * x) + rnd(row[1] * y))\n        return rnd(left + row[2])",
         "        left = rnd(rnd(row[1] * y) + row[2])\n        return rnd(left + rnd(row[0] * x))",
@@ -336,16 +351,126 @@ SLIPS = {
 }
 
 
+DIFFERS = "    if box_handed(call.box(sheet)) != sheet.search():\n        return WILD\n"
+TWO = "    if n > 1024:\n        return OVERFULL\n    if kinds"
+FIVE = "    corners = list(sheet.corner.values())\n    if any(corner >= n for corner in corners):\n        return STRANGER\n"
+SIX = "    if len(set(corners)) < len(corners):\n        return DOUBLED\n"
+
+# Of the label box: the same, seen by the cases of refusals.py.
+BOX_SLIPS = {
+    "the box not looked at": (DIFFERS, ""),
+    "the mark ignored": ("return None if mark else tuple(numbers)", "return tuple(numbers)"),
+    "the numbers of an empty box looked at": (
+        "return None if mark else tuple(numbers)",
+        "return None if mark and not any(numbers) else tuple(numbers)",
+    ),
+    "the right numbers let through with the mark": (
+        "    if box_handed(call.box(sheet)) != sheet.search():",
+        "    if sheet.search() not in (box_handed(call.box(sheet)), tuple(call.box(sheet)[1:])):",
+    ),
+    "an empty box let through": (
+        "    if box_handed(call.box(sheet)) != sheet.search():",
+        "    if box_handed(call.box(sheet)) not in (None, sheet.search()):",
+    ),
+    "any box let through on an empty sheet": (
+        "    if box_handed(call.box(sheet)) != sheet.search():",
+        "    if sheet.search() not in (None, box_handed(call.box(sheet))):",
+    ),
+    "i alone looked at": (
+        "    if box_handed(call.box(sheet)) != sheet.search():",
+        "    if (box_handed(call.box(sheet)) or ())[:2] != (sheet.search() or ())[:2]:",
+    ),
+    "j alone looked at": (
+        "    if box_handed(call.box(sheet)) != sheet.search():",
+        "    if (box_handed(call.box(sheet)) or ())[2:] != (sheet.search() or ())[2:]:",
+    ),
+    "16 bits looked at": (
+        "return None if mark else tuple(numbers)",
+        "return None if mark else tuple((part + 2**15) % 2**16 - 2**15 for part in numbers)",
+    ),
+    "labels of unknown corners left out of the box": (
+        "    if box_handed(call.box(sheet)) != sheet.search():",
+        "    known = Sheet()\n    known.corner = {cell: corner for cell, corner in sheet.corner.items() if corner < n}\n"
+        "    if box_handed(call.box(sheet)) != known.search():",
+    ),
+    "high for low": ("return min(i0, i), max(i1, i), min(j0, j), max(j1, j)", "return max(i0, i), max(i1, i), min(j0, j), max(j1, j)"),
+    "low for high": ("return min(i0, i), max(i1, i), min(j0, j), max(j1, j)", "return min(i0, i), max(i1, i), min(j0, j), min(j1, j)"),
+    "j for i": ("return min(i0, i), max(i1, i), min(j0, j), max(j1, j)", "return min(i0, j), max(i1, j), min(j0, i), max(j1, i)"),
+    "grow does not widen the box": (
+        "            sheet.label(cell, choice)\n            attached.append((cell, choice))\n            enqueue(cell)",
+        "            sheet.corner[cell] = choice\n            attached.append((cell, choice))\n            enqueue(cell)",
+    ),
+    "fill does not widen the box": (
+        "                sheet.label(cell, choice)\n                attached",
+        "                sheet.corner[cell] = choice\n                attached",
+    ),
+    "local does not widen the box": (
+        "                sheet.label(cell, choice)\n                sheet.holes",
+        "                sheet.corner[cell] = choice\n                sheet.holes",
+    ),
+    "fill walks by the kept box": (
+        "    cells = [\n        (i, j)\n        for i in range(i0 - 1, i1 + 2)\n        for j in range(j0 - 1, j1 + 2)\n"
+        "        if i0 <= i <= i1 or j0 <= j <= j1\n    ]\n    return [c for c in cells if on_sheet(c) and c not in sheet.corner]\n",
+        "    def reached(i, j):\n        i0, i1, j0, j1 = sheet.around\n"
+        "        return i0 - 1 <= i <= i1 + 1 and j0 - 1 <= j <= j1 + 1 and (i0 <= i <= i1 or j0 <= j <= j1)\n\n"
+        "    cells = ((i, j) for i in range(FIRST, LAST + 1) for j in range(FIRST, LAST + 1))\n"
+        "    return (c for c in cells if reached(*c) and c not in sheet.corner)\n",
+    ),
+    "local walks by the kept box": (
+        "    return [\n        (i, j)\n        for i in range(i0 - depth, i1 + depth + 1)\n        for j in range(j0 - depth, j1 + depth + 1)\n"
+        "        if on_sheet((i, j)) and walked(i, j)\n    ]\n",
+        "    def reached(i, j):\n        nonlocal i0, i1, j0, j1\n        i0, i1, j0, j1 = sheet.around\n"
+        "        return i0 - depth <= i <= i1 + depth and j0 - depth <= j <= j1 + depth\n\n"
+        "    cells = ((i, j) for i in range(FIRST, LAST + 1) for j in range(FIRST, LAST + 1))\n"
+        "    return (cell for cell in cells if reached(*cell) and walked(*cell))\n",
+    ),
+    "the handed box answered": ("    answer.box = box_answered(sheet.around)", "    answer.box = call.box(sheet)"),
+    "the numbers of an empty box answered": (
+        "    answer.box = box_answered(sheet.around)",
+        "    answer.box = box_answered(sheet.around) if sheet.around else call.box(sheet)",
+    ),
+    "a refused call's box kept": (
+        "    number = refusal(frame, sheet, call)\n",
+        "    number = refusal(frame, sheet, call)\n    sheet.around = box_handed(call.box(sheet))\n",
+    ),
+    "the box before 7": ("    if kinds == SHORT or any(", DIFFERS + "    if kinds == SHORT or any("),
+    "the box before 2": (TWO, DIFFERS + TWO),
+    "the box after 5": (DIFFERS + FIVE, FIVE + DIFFERS),
+    "the box after 6": (DIFFERS + FIVE + SIX, FIVE + SIX + DIFFERS),
+    "a box that differs is 2": (DIFFERS, DIFFERS.replace("WILD", "OVERFULL")),
+}
+
+
 def changed(name):
     """reference.py with the slip, as a module of its own."""
     with open(os.path.join(HERE, "reference.py")) as file:
         text = file.read()
-    old, new = SLIPS[name]
+    old, new = SLIPS[name] if name in SLIPS else BOX_SLIPS[name]
     if text.count(old) != 1:
         sys.exit(f"{name}: stands {text.count(old)} times in reference.py")
     module = types.ModuleType("slipped")
     exec(compile(text.replace(old, new), f"reference.py, {name}", "exec"), module.__dict__)
     return module
+
+
+def seen_in_frames(module, frames, folder):
+    """What the Rust does otherwise, or None."""
+    side = run.Side(folder, module.passes_text)
+    for tried, (frame, data) in enumerate(frames, 1):
+        outcome = run.compare(side, data)
+        wrong = outcome.differences()
+        if wrong or outcome.refusal_differs():
+            where = f"a {wrong[0]['kind']} pass" if wrong else "the answer to two sets"
+            return f"{where} of frame {tried}, {frame}"
+    return None
+
+
+def seen_in_boxes(module, cases):
+    """The case of a box that the changed model answers otherwise, or None."""
+    for name, several, lines in cases:
+        if refusals.lines_of(several, module) != lines:
+            return f"a box, {name}"
+    return None
 
 
 def main():
@@ -354,25 +479,19 @@ def main():
     parser.add_argument("--seed", type=int, default=1)
     parser.add_argument("--count", type=int, default=1000)
     options = parser.parse_args()
-    if not os.path.exists(run.ORACLE):
+    names = options.names or [*SLIPS, *BOX_SLIPS]
+    if not os.path.exists(run.ORACLE) and not all(name in BOX_SLIPS for name in names):
         sys.exit("slips.py: compare/rust/out/oracle is missing: compare/rust/build builds it")
     frames = list(generate.frames(options.seed, options.count))
-    modules = {name: changed(name) for name in options.names or SLIPS}
+    cases = [(name, several, refusals.lines_of(several)) for name, _, several, _ in refusals.all_boxed()]
+    modules = {name: changed(name) for name in names}
     seen = unseen = 0
     with tempfile.TemporaryDirectory() as folder:
         for name, module in modules.items():
-            side = run.Side(folder, module.passes_text)
-            for tried, (frame, data) in enumerate(frames, 1):
-                outcome = run.compare(side, data)
-                wrong = outcome.differences()
-                if wrong or outcome.refusal_differs():
-                    where = f"a {wrong[0]['kind']} pass" if wrong else "the answer to two sets"
-                    print(f"{name}: seen in {where} of frame {tried}, {frame}", flush=True)
-                    seen += 1
-                    break
-            else:
-                print(f"{name}: not seen in {len(frames)} frames", flush=True)
-                unseen += 1
+            where = seen_in_boxes(module, cases) if name in BOX_SLIPS else seen_in_frames(module, frames, folder)
+            print(f"{name}: seen in {where}" if where else f"{name}: not seen", flush=True)
+            seen += where is not None
+            unseen += where is None
     print(f"{seen} seen, {unseen} unseen")
     return 1 if unseen else 0
 

@@ -1,14 +1,15 @@
 #!/usr/bin/env python3
 """Checks of reference.py against what 01 says in so many words: its example,
 M1 to M9, and each refusal with its line; of shades against 02, 1/14, of bare
-grow against 02, 2/14, and of two patches against 02, 3/14. Ends with 'N passed,
-0 failed'."""
+grow against 02, 2/14, of two patches against 02, 3/14, and of the label box
+against 02, 5/14. Ends with 'N passed, 0 failed'."""
 
 import random
 import sys
 
 import generate
 import reference as ref
+import refusals as calls
 
 EXAMPLE = b"""(frame 1)
 (cell 41200000)
@@ -72,7 +73,8 @@ def worked_examples():
         f.pitch = [ref.LEAST_PITCH, ref.LEAST_PITCH]
         yield "M7", ref.edge_accepted(f, 0, 1, watch), passes
     sheet = ref.Sheet()
-    sheet.corner = {(0, 0): 0, (2, 0): 1}
+    sheet.label((0, 0), 0)
+    sheet.label((2, 0), 1)
     yield "M8", len(ref.fill_cells(sheet)), 9
     yield "M9", len(ref.local_cells(sheet, 1)), 11
     yield "example", ref.result(EXAMPLE), RESULT
@@ -310,6 +312,84 @@ def split():
             yield f"split {k}", ref.result(two.text()), ref.result(whole.text())
 
 
+def boxes():
+    """02, 5/14, by hand: the box with one cell more, as it is handed, and as it
+    is answered."""
+    for around, cell, expected in [
+        (None, (7, -9), (7, 7, -9, -9)),
+        ((7, 7, -9, -9), (7, -9), (7, 7, -9, -9)),
+        ((-1, 2, 3, 5), (0, 4), (-1, 2, 3, 5)),
+        ((-1, 2, 3, 5), (-2, 4), (-2, 2, 3, 5)),
+        ((-1, 2, 3, 5), (3, 4), (-1, 3, 3, 5)),
+        ((-1, 2, 3, 5), (0, 1), (-1, 2, 1, 5)),
+        ((-1, 2, 3, 5), (0, 6), (-1, 2, 3, 6)),
+        ((-1, 2, 3, 5), (-64, 63), (-64, 2, 3, 63)),
+    ]:
+        yield f"{cell} in {around}", ref.widened(around, cell), expected
+    for five, around, answered in [
+        ((0, -1, 2, 3, 5), (-1, 2, 3, 5), (0, -1, 2, 3, 5)),
+        ((0, 0, 0, 0, 0), (0, 0, 0, 0), (0, 0, 0, 0, 0)),
+        ((1, 0, 0, 0, 0), None, (1, 0, 0, 0, 0)),
+        ((1, -1, 2, 3, 5), None, (1, 0, 0, 0, 0)),
+    ]:
+        yield f"handed {five}", ref.box_handed(five), around
+        yield f"answered {around}", ref.box_answered(around), answered
+    for labels, second, expected in [
+        ([], None, None),
+        ([(0, 5, -7)], None, (5, 5, -7, -7)),
+        ([(0, 0, 0), (1, -3, 9)], None, (-3, 0, 0, 9)),
+        # Shifted by (-5 3); a shared label widens nothing.
+        ([(0, 0, 0)], [(0, 5, -3), (1, 6, -3), (2, 5, -9)], (0, 1, -6, 0)),
+        ([(0, 0, 0), (1, 4, 4)], [(1, 0, 0), (0, -4, -4)], (0, 4, 0, 4)),
+    ]:
+        if second is None:
+            text = b"".join(LINES[:7]) + b"".join(b"(label %d (%d %d))\n" % label for label in labels)
+        else:
+            text = patched(labels, second, b"")
+        yield f"read {labels} {second}", ref.read(text).around, expected
+
+
+def found(sheet):
+    """What a search finds, cell by cell."""
+    box = None
+    for i in range(-64, 64):
+        for j in range(-64, 64):
+            if (i, j) in sheet.corner:
+                i0, i1, j0, j1 = box or (i, i, j, j)
+                box = min(i0, i), i1 if i < i1 else i, j0 if j0 < j else j, max(j1, j)
+    return box
+
+
+def kept():
+    """After reading, joining and every pass the kept box is what a search finds."""
+    for seed, patched_share in ((501, 0), (502, 1)):
+        for name, data in generate.frames(seed, 120, patched=patched_share):
+            try:
+                frame = ref.read(data)
+            except ref.NotJoined:
+                continue
+            sheet = frame.given()
+            yield f"{name}, read", sheet.around, found(sheet)
+            for number in range(len(frame.passes)):
+                ref.run_pass(frame, sheet, number)
+                yield f"{name}, pass {number + 1}", sheet.around, found(sheet)
+
+
+def library():
+    """The refusals of the library calls, and the boxes that they answer, by hand
+    in refusals.py."""
+    for kind, name in enumerate(calls.KINDS):
+        for what, change, number in calls.cases(kind):
+            call = calls.Call(kind)
+            change(call)
+            listed = call.modelled()
+            yield f"{name}, {what}", ref.refusal(listed.frame(), listed.sheet(), *listed.calls), number
+            yield f"{name}, {what}, words", listed.words(), call.words()
+    for name, read, several, answers in calls.all_boxed():
+        yield name, calls.said(calls.lines_of(several)), answers
+        yield f"{name}, words", several.words(), read
+
+
 def refusals():
     digits = b"9" * 5000
     many = HEAD + CORNER * 1024
@@ -438,7 +518,7 @@ def acceptances():
 
 def main():
     passed = failed = 0
-    for checks in (worked_examples, shades, lent, bare_grow, patches, patch_refusals, joins, split, refusals, acceptances):
+    for checks in (worked_examples, shades, lent, bare_grow, patches, patch_refusals, joins, split, boxes, kept, library, refusals, acceptances):
         for name, got, expected in checks():
             if got == expected:
                 passed += 1

@@ -6,17 +6,24 @@
 Without a file the frame is read from standard input; of several, the lists
 stand one after the other. A number is a line of eight hexadecimal digits:
 corners, labels, calls; 1 if the visited cells are to be printed (0 with
---silent); for each corner its x, y, pitch and shades; for each label its corner
-and place; for each call its kind (0 grow, 1 fill, 2 local), cell, the four axis
-parts, band, five numbers of the pass, and the lengths to lend (ys, pitches,
-sheet, queue, attached, shades).
+--silent), 2 if sums over queue and list too, and 4 more if the calls say which
+box they are handed; for each corner its x, y, pitch and shades; for each label
+its corner and place; for each call its kind (0 grow, 1 fill, 2 local), cell, the
+four axis parts, band, five numbers of the pass, and the lengths to lend (ys,
+pitches, sheet, queue, attached, shades).
+With 4 more each call has six numbers more (02, 5/14): 1 if it is handed the box
+that the last call left, at first the one that a search of the sheet finds, or 0
+if it is handed the five behind it: mark, low i, high i, low j, high j, in two's
+complement. A mark other than 0 is an empty box. A call that is accepted then
+prints the box that it answers, as `box` and the same five numbers in decimal.
+Without 4 every call is handed the box as left; a frame's calls are.
 A corner's shades are one number: two bits for each call, the lowest for the
 first, those of a 17th call again the lowest. They are the byte that is lent: 0
 no shade, 1 kind 0, 2 kind 1; 3 is out of range. A frame lends its own shades to
 every pass.
 The labels of a frame with a patch line are those of both sets, joined by
 reference.py. A frame that the reader refuses is refused here, with the same
-line. The program reads 131,072 bytes: more is an error here.
+line. The program reads 262,144 bytes: more is an error here.
 """
 
 import argparse
@@ -25,7 +32,8 @@ import sys
 import reference as ref
 
 KINDS = {"grow": 0, "fill": 1, "local": 2}
-MOST_BYTES = 131072
+MOST_BYTES = 262144
+VISITED, SUMS, BOXES = 1, 2, 4  # what is printed of a list
 LENT = ["ys", "pitches", "sheet", "queue", "attached", "shades"]
 CALLS = 16  # that have bits of their own in a corner's shades
 
@@ -61,6 +69,12 @@ def call_words(kind, settings, numbers, lent):
     return out + numbers_of(kind, numbers) + [whole(lent[name]) for name in LENT]
 
 
+def box_words(five):
+    """The box that a call is handed: mark and four numbers, or None for the one
+    that the last call left."""
+    return [whole(1)] + [whole(0)] * 5 if five is None else [whole(0)] + [whole(part % 2**32) for part in five]
+
+
 def shades_word(corner, shades):
     """A corner's shades in all calls: `shades` are each call's bytes."""
     word = 0
@@ -72,10 +86,10 @@ def shades_word(corner, shades):
     return whole(word)
 
 
-def list_words(corners, labels, calls, visited=1, shades=()):
+def list_words(corners, labels, calls, told=VISITED, shades=()):
     """A list: corners (x, y, pitch), labels (corner, cell), calls as above, and
     for each call the shades that it is lent, a byte a corner."""
-    out = [whole(len(corners)), whole(len(labels)), whole(len(calls)), whole(visited)]
+    out = [whole(len(corners)), whole(len(labels)), whole(len(calls)), whole(told)]
     for n, corner in enumerate(corners):
         out += [ref.to_hex(x) for x in corner] + [shades_word(n, shades)]
     for corner, cell in labels:
@@ -85,12 +99,12 @@ def list_words(corners, labels, calls, visited=1, shades=()):
     return "\n".join(out) + "\n"
 
 
-def words(frame, lend, visited=1):
+def words(frame, lend, told=VISITED):
     settings = (frame.cell, frame.axes, frame.band)
     lent = lengths(len(frame.x), lend)
     calls = [call_words(kind, settings, numbers, lent) for kind, numbers in frame.passes]
     corners = list(zip(frame.x, frame.y, frame.pitch))
-    return list_words(corners, frame.labels, calls, visited, [shade_bytes(frame)] * len(calls))
+    return list_words(corners, frame.labels, calls, told, [shade_bytes(frame)] * len(calls))
 
 
 def shade_bytes(frame):
@@ -113,7 +127,7 @@ def main():
         except ref.Refused as refused:
             print(refused)
             sys.exit(1)
-        lists += words(frame, lend, 0 if options.silent else 1)
+        lists += words(frame, lend, 0 if options.silent else VISITED)
     if len(lists) > MOST_BYTES:
         sys.exit(f"{len(lists)} bytes, more than the program reads")
     sys.stdout.write(lists)
