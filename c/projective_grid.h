@@ -6,9 +6,9 @@
  * WHAT HOLDS OF EVERY FUNCTION
  *
  * The answer is 0 (done) or the number of a refusal, 1 to 9; the reader's has the line in it too, see there. Later requests
- * may add numbers (02, 3/14): take any answer but 0 for a refusal. No
- * function asks anything of the values that it is lent: each checks them and refuses what is wrong. A refused call
- * changes no place of any buffer. A call that is done writes what is said here, and leaves every other place of every buffer as it was. No function keeps a pointer, allocates,
+ * may add numbers (02, 3/14): take any answer but 0 for a refusal. No function asks anything of the values that it is
+ * lent: each checks them and refuses what is wrong. A refused call changes no place of any buffer. A call that is done
+ * writes what is said here, and leaves every other place of every buffer as it was. No function keeps a pointer, allocates,
  * reads or writes anything else, or runs without end.
  *
  * WHAT THE CALLER OWES (the proof assumes it, and nothing checks it)
@@ -17,7 +17,7 @@
  * - The buffers of one call must not overlap one another.
  * - A start must not be null and must be aligned for its type, even where the length is 0.
  * - No other thread may write to a buffer during a call, or read one that the call may write to.
- * - Stack: a pass needs some 260 KB of it, whichever it is, the reader 68 KB, the writers less; a thread of 300 KB is enough
+ * - Stack: a pass needs some 280 KB of it, whichever it is, the reader 68 KB, the writers less; a thread of 300 KB is enough
  *   for all.
  *
  * A buffer may be longer than needed.
@@ -39,7 +39,7 @@ enum projective_grid_answer {
     PROJECTIVE_GRID_DONE = 0,
     PROJECTIVE_GRID_MALFORMED = 1,        /* bent: line missing, out of order or ill-formed */
     PROJECTIVE_GRID_OVER_LIMIT = 2,       /* overfull: a limit on bytes, corners or passes passed */
-    PROJECTIVE_GRID_OUT_OF_RANGE = 3,     /* wild: number non-finite or out of range; shade byte above 2 */
+    PROJECTIVE_GRID_OUT_OF_RANGE = 3,     /* wild: number non-finite or out of range; shade byte above 2; label box not the sheet's */
     PROJECTIVE_GRID_OFF_SHEET = 4,        /* off sheet: label's cell outside, at the patch line after the join's shift */
     PROJECTIVE_GRID_UNKNOWN_CORNER = 5,   /* stranger: label's or shade's corner not given */
     PROJECTIVE_GRID_DUPLICATE = 6,        /* doubled: cell or corner labelled twice in one set, corner shaded twice */
@@ -55,6 +55,7 @@ enum {
     PROJECTIVE_GRID_PASSES = 16,
     /* places needed */
     PROJECTIVE_GRID_SHEET = 16384,
+    PROJECTIVE_GRID_BOX = 5,
     PROJECTIVE_GRID_QUEUE_PER_CORNER = 4,
     PROJECTIVE_GRID_ATTACHED_PER_CORNER = 1,
     PROJECTIVE_GRID_PASS_WORDS = 6,
@@ -76,6 +77,23 @@ enum {
 #define PROJECTIVE_GRID_CORNER_BITS 0x3fff
 #define PROJECTIVE_GRID_HOLE 0x4000
 #define PROJECTIVE_GRID_AMBIGUOUS 0x8000
+
+/* THE LABEL BOX, kept with the sheet (02, 5/14): the lowest and highest i and j of the labelled cells, and before them a mark
+ * for a sheet without labels. The reader writes the box of the sheet that it writes. Each pass is lent the box of its sheet
+ * behind it, and a pass that is done writes the box of the sheet that it leaves: so lend each the same five places, as the
+ * reader or the last pass left them. Fewer than five are refused with 7.
+ * A mark other than 0 or 1, and a box that is not what a search of the sheet finds, is refused with 3: after 7 and 2, before
+ * 5 and 6, whose labels count for the box too. Where the mark is 1 the four numbers count for nothing, whatever they are:
+ * that box is the empty one, and the right one only on a sheet without labels.
+ * A box that is written has no numbers but 0 where it is empty: 1 0 0 0 0. Places behind the fifth are neither looked at
+ * nor written. The writers of the text take no box. */
+enum projective_grid_box {
+    PROJECTIVE_GRID_BOX_EMPTY = 0,  /* 1 where no cell is labelled, else 0 */
+    PROJECTIVE_GRID_BOX_LOW_I = 1,  /* -64 to 63, as the others */
+    PROJECTIVE_GRID_BOX_HIGH_I = 2,
+    PROJECTIVE_GRID_BOX_LOW_J = 3,
+    PROJECTIVE_GRID_BOX_HIGH_J = 4
+};
 
 /* THE SHADES: a byte for each corner, whether it has a kind and which (02, 1/14). Where one of the first n is not 0, the
  * cell (i, j) takes only corners of kind 0 if i + j is even and of kind 1 if it is odd, and a corner without a shade is
@@ -126,15 +144,17 @@ enum projective_grid_setting {
 };
 
 /* Grow. The corners are xs, ys, pitches and shades; their number n is xs_len. Needed: n places each of ys, pitches, shades
- * and attached, 4 * n of queue, 16,384 of sheet, 11 of out.
- * Done: the sheet holds what grow left there, the front of queue the places of the visited cells in order, the front of
- * attached those of the new cells in order, the front of out grow's eleven words. */
+ * and attached, 4 * n of queue, 16,384 of sheet, 5 of around, 11 of out.
+ * Refused with 3 also where around does not hold the label box of sheet, see there.
+ * Done: the sheet holds what grow left there, the front of around its label box, the front of queue the places of the
+ * visited cells in order, the front of attached those of the new cells in order, the front of out grow's eleven words. */
 uint32_t projective_grid_extend_from_labelled(
     const float *xs, size_t xs_len,
     const float *ys, size_t ys_len,
     const float *pitches, size_t pitches_len,
     const uint8_t *shades, size_t shades_len,
     uint16_t *sheet, size_t sheet_len,
+    int32_t *around, size_t around_len,
     uint16_t *queue, size_t queue_len,
     uint16_t *attached, size_t attached_len,
     float cell_size, float axis_i_x, float axis_i_y, float axis_j_x, float axis_j_y, float edge_length_tol,
@@ -148,6 +168,7 @@ uint32_t projective_grid_fill_grid_holes(
     const float *pitches, size_t pitches_len,
     const uint8_t *shades, size_t shades_len,
     uint16_t *sheet, size_t sheet_len,
+    int32_t *around, size_t around_len,
     uint16_t *attached, size_t attached_len,
     float cell_size, float axis_i_x, float axis_i_y, float axis_j_x, float axis_j_y, float edge_length_tol,
     float attach_search_rel, float attach_ambiguity_factor, uint32_t max_iters,
@@ -160,16 +181,18 @@ uint32_t projective_grid_extend_via_local_homography(
     const float *pitches, size_t pitches_len,
     const uint8_t *shades, size_t shades_len,
     uint16_t *sheet, size_t sheet_len,
+    int32_t *around, size_t around_len,
     uint16_t *attached, size_t attached_len,
     float cell_size, float axis_i_x, float axis_i_y, float axis_j_x, float axis_j_y, float edge_length_tol,
     float search_rel, float ambiguity_factor, uint32_t max_iters, float max_residual_rel, uint32_t extend_depth,
     uint32_t *out, size_t out_len);
 
-/* Reads a frame. Needed: 1,024 places each of xs, ys, pitches and shades, 16,384 of sheet, 96 of passes, 6 of settings, 2
- * of out.
+/* Reads a frame. Needed: 1,024 places each of xs, ys, pitches and shades, 16,384 of sheet, 5 of around, 96 of
+ * passes, 6 of settings, 2 of out.
  * Done: the corners stand at the front of xs, ys, pitches and shades, the sheet of the given labels (where the frame has two
- * sets of them, both joined, in the cells of the first) in the first 16,384 places of sheet, six words for each pass at the
- * front of passes, the six settings at the front of settings, and in out the number of corners and the number of passes.
+ * sets of them, both joined, in the cells of the first) in the first 16,384 places of sheet, its label box at the front of
+ * around, six words for each pass at the front of passes, the six settings at the front of settings, and in out the number
+ * of corners and the number of passes.
  * Refused: the answer is the number plus 16 times the line of the frame; the line is 0 where there are too many bytes, and
  * for 7. PROJECTIVE_GRID_NUMBER and PROJECTIVE_GRID_LINE take it apart. */
 #define PROJECTIVE_GRID_NUMBER(answer) ((answer) % 16)
@@ -182,6 +205,7 @@ uint32_t projective_grid_read_frame(
     float *pitches, size_t pitches_len,
     uint8_t *shades, size_t shades_len,
     uint16_t *sheet, size_t sheet_len,
+    int32_t *around, size_t around_len,
     uint32_t *passes, size_t passes_len,
     float *settings, size_t settings_len,
     uint32_t *out, size_t out_len);

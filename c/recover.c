@@ -10,6 +10,7 @@ static uint8_t frame[PROJECTIVE_GRID_FRAME_BYTES + 1]; /* one more byte shows th
 static float xs[PROJECTIVE_GRID_CORNERS], ys[PROJECTIVE_GRID_CORNERS], pitches[PROJECTIVE_GRID_CORNERS];
 static uint8_t shades[PROJECTIVE_GRID_CORNERS];
 static uint16_t sheet[PROJECTIVE_GRID_SHEET];
+static int32_t around[PROJECTIVE_GRID_BOX]; /* as the reader or the last pass left it */
 static uint16_t queue[PROJECTIVE_GRID_QUEUE_PER_CORNER * PROJECTIVE_GRID_CORNERS], attached[PROJECTIVE_GRID_CORNERS];
 static uint32_t passes[PROJECTIVE_GRID_PASS_WORDS * PROJECTIVE_GRID_PASSES];
 static uint32_t words[PROJECTIVE_GRID_OUTCOME_WORDS * PROJECTIVE_GRID_PASSES];
@@ -29,14 +30,14 @@ static uint32_t run_pass(const uint32_t *p, size_t n, uint32_t *out) {
     uint32_t rounds = p[PROJECTIVE_GRID_PASS_ROUNDS], depth = p[PROJECTIVE_GRID_PASS_DEPTH];
     if (p[PROJECTIVE_GRID_PASS_KIND] == PROJECTIVE_GRID_GROW)
         return projective_grid_extend_from_labelled(
-            xs, n, ys, n, pitches, n, shades, n, sheet, PROJECTIVE_GRID_SHEET, queue, 4 * n, attached, n,
-            s[0], s[1], s[2], s[3], s[4], s[5], search, factor, third, out, PROJECTIVE_GRID_OUTCOME_WORDS);
+            xs, n, ys, n, pitches, n, shades, n, sheet, PROJECTIVE_GRID_SHEET, around, PROJECTIVE_GRID_BOX, queue, 4 * n,
+            attached, n, s[0], s[1], s[2], s[3], s[4], s[5], search, factor, third, out, PROJECTIVE_GRID_OUTCOME_WORDS);
     if (p[PROJECTIVE_GRID_PASS_KIND] == PROJECTIVE_GRID_FILL)
         return projective_grid_fill_grid_holes(
-            xs, n, ys, n, pitches, n, shades, n, sheet, PROJECTIVE_GRID_SHEET, attached, n,
+            xs, n, ys, n, pitches, n, shades, n, sheet, PROJECTIVE_GRID_SHEET, around, PROJECTIVE_GRID_BOX, attached, n,
             s[0], s[1], s[2], s[3], s[4], s[5], search, factor, rounds, out, PROJECTIVE_GRID_OUTCOME_WORDS);
     return projective_grid_extend_via_local_homography(
-        xs, n, ys, n, pitches, n, shades, n, sheet, PROJECTIVE_GRID_SHEET, attached, n,
+        xs, n, ys, n, pitches, n, shades, n, sheet, PROJECTIVE_GRID_SHEET, around, PROJECTIVE_GRID_BOX, attached, n,
         s[0], s[1], s[2], s[3], s[4], s[5], search, factor, rounds, third, depth, out, PROJECTIVE_GRID_OUTCOME_WORDS);
 }
 
@@ -77,8 +78,8 @@ int main(int count, char **arguments) {
     uint32_t head[PROJECTIVE_GRID_READ_OUT];
     uint32_t answer = projective_grid_read_frame(
         frame, bytes, xs, PROJECTIVE_GRID_CORNERS, ys, PROJECTIVE_GRID_CORNERS, pitches, PROJECTIVE_GRID_CORNERS,
-        shades, PROJECTIVE_GRID_CORNERS, sheet, PROJECTIVE_GRID_SHEET, passes, PROJECTIVE_GRID_PASS_WORDS * PROJECTIVE_GRID_PASSES,
-        s, PROJECTIVE_GRID_SETTINGS, head, PROJECTIVE_GRID_READ_OUT);
+        shades, PROJECTIVE_GRID_CORNERS, sheet, PROJECTIVE_GRID_SHEET, around, PROJECTIVE_GRID_BOX,
+        passes, PROJECTIVE_GRID_PASS_WORDS * PROJECTIVE_GRID_PASSES, s, PROJECTIVE_GRID_SETTINGS, head, PROJECTIVE_GRID_READ_OUT);
     if (answer != PROJECTIVE_GRID_DONE)
         return written(printf("(refused %u %u)\n", (unsigned)PROJECTIVE_GRID_NUMBER(answer), (unsigned)PROJECTIVE_GRID_LINE(answer)) > 0);
     for (size_t k = 0; k < head[1]; k++)

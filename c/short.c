@@ -1,7 +1,8 @@
 /* Lends every exported function every buffer one place short, once each: the answer has to be 7, and no place of any
  * buffer may change. With exactly the places that are needed it has to be done, and with more the rest has to stay as it
  * was: of what is lent as shades that is more than a byte may be, and must not be looked at. Then values that are refused
- * by 1 to 6: again no place may change.
+ * by 1 to 6, every wrong label box among them: again no place may change. A box that a call writes has to be what a search
+ * of the sheet finds.
  * Argument: an accepted frame. */
 #include <math.h>
 #include <stdio.h>
@@ -11,11 +12,14 @@
 #include "projective_grid.h"
 
 enum { MORE = 3, CORNERS = PROJECTIVE_GRID_CORNERS + 1 + MORE, TEXT = PROJECTIVE_GRID_LONGEST_TEXT };
-enum { WORDS = PROJECTIVE_GRID_OUTCOME_WORDS, UNTOUCHED = 0xa5 };
+enum { WORDS = PROJECTIVE_GRID_OUTCOME_WORDS, BOX = PROJECTIVE_GRID_BOX, UNTOUCHED = 0xa5 };
+enum { EMPTY = PROJECTIVE_GRID_BOX_EMPTY, LOW_I = PROJECTIVE_GRID_BOX_LOW_I, HIGH_I = PROJECTIVE_GRID_BOX_HIGH_I };
+enum { LOW_J = PROJECTIVE_GRID_BOX_LOW_J, HIGH_J = PROJECTIVE_GRID_BOX_HIGH_J };
 
 static uint8_t frame[PROJECTIVE_GRID_FRAME_BYTES + 1 + MORE];
 static float xs[CORNERS], ys[CORNERS], pitches[CORNERS], settings[PROJECTIVE_GRID_SETTINGS + MORE];
 static uint16_t sheet[PROJECTIVE_GRID_SHEET + MORE], queue[4 * CORNERS], attached[CORNERS];
+static int32_t around[BOX + MORE];
 static uint32_t passes[96 + MORE], words[16 * WORDS + MORE], out[WORDS + MORE];
 static uint8_t shades[CORNERS], text[TEXT + MORE];
 
@@ -63,23 +67,23 @@ static uint32_t rounds, depth;
 #define SETTINGS cell_size, settings[1], settings[2], settings[3], settings[4], band
 
 static uint32_t call_grow(const size_t *n) {
-    return projective_grid_extend_from_labelled(xs, n[0], ys, n[1], pitches, n[2], shades, n[3], sheet, n[4], queue, n[5],
-                                                attached, n[6], SETTINGS, search, factor, boundary, out, n[7]);
+    return projective_grid_extend_from_labelled(xs, n[0], ys, n[1], pitches, n[2], shades, n[3], sheet, n[4], around, n[5],
+                                                queue, n[6], attached, n[7], SETTINGS, search, factor, boundary, out, n[8]);
 }
 
 static uint32_t call_fill(const size_t *n) {
-    return projective_grid_fill_grid_holes(xs, n[0], ys, n[1], pitches, n[2], shades, n[3], sheet, n[4], attached, n[5],
-                                           SETTINGS, search, factor, rounds, out, n[6]);
+    return projective_grid_fill_grid_holes(xs, n[0], ys, n[1], pitches, n[2], shades, n[3], sheet, n[4], around, n[5],
+                                           attached, n[6], SETTINGS, search, factor, rounds, out, n[7]);
 }
 
 static uint32_t call_local(const size_t *n) {
-    return projective_grid_extend_via_local_homography(xs, n[0], ys, n[1], pitches, n[2], shades, n[3], sheet, n[4], attached, n[5],
-                                                       SETTINGS, search, factor, rounds, residual, depth, out, n[6]);
+    return projective_grid_extend_via_local_homography(xs, n[0], ys, n[1], pitches, n[2], shades, n[3], sheet, n[4], around, n[5],
+                                                       attached, n[6], SETTINGS, search, factor, rounds, residual, depth, out, n[7]);
 }
 
 static uint32_t call_read(const size_t *n) {
-    return projective_grid_read_frame(frame, n[0], xs, n[1], ys, n[2], pitches, n[3], shades, n[4], sheet, n[5], passes, n[6],
-                                      settings, n[7], out, n[8]);
+    return projective_grid_read_frame(frame, n[0], xs, n[1], ys, n[2], pitches, n[3], shades, n[4], sheet, n[5], around, n[6],
+                                      passes, n[7], settings, n[8], out, n[9]);
 }
 
 static uint32_t call_write(const size_t *n) {
@@ -96,12 +100,12 @@ struct call {
     const char *name;
     uint32_t (*run)(const size_t *);
     size_t count;
-    struct lent b[9];
+    struct lent b[10];
 };
 
 /* Runs it with these lengths; all buffers are as they were before, and `keep` holds how they were. */
 static uint32_t run(struct call *c, size_t shorter, size_t more) {
-    size_t n[9];
+    size_t n[10];
     for (size_t k = 0; k < c->count; k++)
         n[k] = c->b[k].needed - (k == shorter) + (c->b[k].fixes_none ? 0 : more);
     keep(c->b, c->count);
@@ -114,6 +118,22 @@ static void unchanged(struct call *c, const char *what) {
     restore(c->b, c->count);
 }
 
+/* The label box that a search of the sheet finds, as a call writes it. */
+static void search_box(int32_t *box) {
+    memcpy(box, (int32_t[BOX]){1}, BOX * sizeof box[0]);
+    for (int32_t place = 0; place < PROJECTIVE_GRID_SHEET; place++) {
+        int32_t i = place / 128 - 64, j = place % 128 - 64;
+        if (!(sheet[place] & PROJECTIVE_GRID_CORNER_BITS))
+            continue;
+        if (box[EMPTY])
+            memcpy(box, (int32_t[BOX]){0, i, i, j, j}, BOX * sizeof box[0]);
+        box[LOW_I] = i < box[LOW_I] ? i : box[LOW_I];
+        box[HIGH_I] = i > box[HIGH_I] ? i : box[HIGH_I];
+        box[LOW_J] = j < box[LOW_J] ? j : box[LOW_J];
+        box[HIGH_J] = j > box[HIGH_J] ? j : box[HIGH_J];
+    }
+}
+
 /* Each buffer one place short; then as long as is needed, and longer. */
 static void lengths(struct call *c) {
     for (size_t k = 0; k < c->count; k++) {
@@ -123,7 +143,10 @@ static void lengths(struct call *c) {
         unchanged(c, "a call that is answered by 7 changed a buffer");
     }
     for (size_t more = 0; more <= MORE; more += MORE) {
+        int32_t box[BOX];
         check(run(c, c->count, more) == PROJECTIVE_GRID_DONE, c->name, "with all places that are needed it is not done", "all");
+        search_box(box);
+        check(!memcmp(around, box, sizeof box), c->name, "the box is not what a search of the sheet finds", "around");
         for (size_t k = 0; k < c->count; k++)
             check(same(&c->b[k], c->b[k].needed), c->name, "a place behind those that are needed was changed", c->b[k].name);
         if (!more)
@@ -139,14 +162,17 @@ static void refused(struct call *c, uint32_t number, const char *what) {
     unchanged(c, what);
 }
 
-/* 5 and 6: a corner that there is not, a corner on two places. */
+/* 5 and 6: a corner that there is not, a corner on two places. A pass is lent the box of that sheet. */
 static void labels(struct call *c) {
     uint16_t first = sheet[0], last = sheet[PROJECTIVE_GRID_SHEET - 1];
     sheet[0] = (uint16_t)(corners + 1);
+    search_box(around);
     refused(c, PROJECTIVE_GRID_UNKNOWN_CORNER, "stranger");
     sheet[0] = sheet[PROJECTIVE_GRID_SHEET - 1] = 1;
+    search_box(around);
     refused(c, PROJECTIVE_GRID_DUPLICATE, "doubled");
     sheet[0] = first, sheet[PROJECTIVE_GRID_SHEET - 1] = last;
+    search_box(around);
 }
 
 /* 3: a wild float of each kind. */
@@ -178,9 +204,87 @@ static void bytes(struct call *c) {
 static void too_many(struct call *c) {
     struct call many = *c;
     for (size_t k = 0; k < many.count; k++)
-        if (many.b[k].needed % corners == 0 && many.b[k].needed / corners <= 4 && many.b[k].start != sheet && many.b[k].start != out)
+        if (many.b[k].needed % corners == 0 && many.b[k].needed / corners <= 4 && many.b[k].start != sheet && many.b[k].start != around &&
+            many.b[k].start != out)
             many.b[k].needed = many.b[k].needed / corners * (PROJECTIVE_GRID_CORNERS + 1);
     refused(&many, PROJECTIVE_GRID_OVER_LIMIT, "overfull");
+}
+
+/* 3: a box that differs from the sheet's; 7 and 2 are tried before it. */
+static void wrong(struct call *c, const char *what) {
+    refused(c, PROJECTIVE_GRID_OUT_OF_RANGE, what);
+    too_many(c);
+}
+
+/* Every wrong box of the sheet as it is, whatever is wrong with its labels. */
+static void wrong_boxes(struct call *c) {
+    int32_t right[BOX];
+    search_box(right);
+    for (size_t k = LOW_I; k <= HIGH_J && !right[EMPTY]; k++) {
+        int32_t other[] = {right[k] - 1, right[k] + 1, INT32_MIN, INT32_MAX};
+        for (size_t m = 0; m < sizeof other / sizeof other[0]; m++) {
+            around[k] = other[m];
+            wrong(c, "a number of the box");
+            around[k] = right[k];
+        }
+    }
+    for (int32_t mark = -1; mark <= 2; mark++)
+        if (mark != right[EMPTY]) {
+            around[EMPTY] = mark;
+            wrong(c, "the mark of the box");
+        }
+    around[EMPTY] = 1, memset(around + LOW_I, 0, 4 * sizeof around[0]);
+    if (!right[EMPTY])
+        wrong(c, "the empty box of a sheet with labels");
+    memcpy(around, right, sizeof right);
+}
+
+/* On a sheet without labels, marks or not: the empty box is right whatever its numbers, and is written with zeros; any other is wrong. */
+static void no_labels(struct call *c) {
+    static uint16_t before[sizeof sheet / sizeof sheet[0]];
+    int32_t right[BOX], wild[][4] = {{0}, {1, 2, 3, 4}, {INT32_MIN, INT32_MAX, INT32_MAX, INT32_MIN}, {63, -64, 63, -64}};
+    memcpy(before, sheet, sizeof sheet), memcpy(right, around, sizeof right);
+    for (size_t k = 0; k < PROJECTIVE_GRID_SHEET; k++)
+        sheet[k] &= (uint16_t)~PROJECTIVE_GRID_CORNER_BITS;
+    for (size_t k = 0; k < sizeof wild / sizeof wild[0]; k++) {
+        around[EMPTY] = 1, memcpy(around + LOW_I, wild[k], sizeof wild[k]);
+        check(run(c, c->count, 0) == PROJECTIVE_GRID_DONE, c->name, "the empty box is refused on a sheet without labels", "around");
+        check(!memcmp(around, (int32_t[BOX]){1}, sizeof right), c->name, "the empty box is not written as 1 0 0 0 0", "around");
+        for (size_t m = 0; m < c->count; m++) {
+            int written = c->b[m].start == around || c->b[m].start == out;
+            check(same(&c->b[m], written ? c->b[m].needed : 0), c->name, "a pass over no label changed a buffer", c->b[m].name);
+        }
+        restore(c->b, c->count);
+    }
+    search_box(around);
+    wrong_boxes(c);
+    memcpy(sheet, before, sizeof sheet), memcpy(around, right, sizeof right);
+}
+
+/* The box: wrong on the sheet as it is, on one with a stranger, on one with a corner on two places and on one without labels;
+ * and fewer than five places, whatever they hold. */
+static void boxes(struct call *c) {
+    uint16_t first = sheet[0], last = sheet[PROJECTIVE_GRID_SHEET - 1];
+    for (size_t faults = 0; faults < 3; faults++) {
+        sheet[0] = faults ? (uint16_t)(faults == 1 ? corners + 1 : 1) : first;
+        sheet[PROJECTIVE_GRID_SHEET - 1] = faults == 2 ? 1 : last;
+        search_box(around);
+        wrong_boxes(c);
+    }
+    sheet[0] = first, sheet[PROJECTIVE_GRID_SHEET - 1] = last;
+    search_box(around);
+    no_labels(c);
+    struct call little = *c;
+    size_t box = 0;
+    while (little.b[box].start != around)
+        box++;
+    for (size_t places = 0; places < BOX; places++)
+        for (int32_t off = 0; off < 2; off++) {
+            little.b[box].needed = places, around[EMPTY] += 2 * off;
+            check(run(&little, little.count, 0) == PROJECTIVE_GRID_BUFFER_TOO_SHORT, c->name, "fewer than five places", "around");
+            unchanged(&little, "a call that is answered by 7 changed a buffer");
+            around[EMPTY] -= 2 * off;
+        }
 }
 
 static void pass(struct call *c) {
@@ -188,6 +292,7 @@ static void pass(struct call *c) {
     floats(c);
     bytes(c);
     labels(c);
+    boxes(c);
     lengths(c);
 }
 
@@ -302,14 +407,15 @@ int main(int count, char **arguments) {
     if (!file)
         return fprintf(stderr, "short: it takes one frame file\n"), 2;
     frame_bytes = fread(frame, 1, PROJECTIVE_GRID_FRAME_BYTES, file);
-    memset(out, UNTOUCHED, sizeof out), memset(text, UNTOUCHED, sizeof text), memset(words, UNTOUCHED, sizeof words);
+    memset(out, UNTOUCHED, sizeof out), memset(around, UNTOUCHED, sizeof around);
+    memset(text, UNTOUCHED, sizeof text), memset(words, UNTOUCHED, sizeof words);
     memset(queue, UNTOUCHED, sizeof queue), memset(attached, UNTOUCHED, sizeof attached), memset(passes, UNTOUCHED, sizeof passes);
     memset(sheet, UNTOUCHED, sizeof sheet), memset(xs, UNTOUCHED, sizeof xs), memset(ys, UNTOUCHED, sizeof ys);
     memset(pitches, UNTOUCHED, sizeof pitches), memset(shades, UNTOUCHED, sizeof shades), memset(settings, UNTOUCHED, sizeof settings);
 
-    struct call reading = {"read_frame", call_read, 9,
+    struct call reading = {"read_frame", call_read, 10,
                            {GIVEN(frame, frame_bytes), LENT(xs, 1024), LENT(ys, 1024), LENT(pitches, 1024), LENT(shades, 1024),
-                            LENT(sheet, 16384), LENT(passes, 96), LENT(settings, 6), LENT(out, 2)}};
+                            LENT(sheet, 16384), LENT(around, BOX), LENT(passes, 96), LENT(settings, 6), LENT(out, 2)}};
     made(&reading);
     reader(&reading);
     corners = out[0], pass_count = out[1];
@@ -318,15 +424,15 @@ int main(int count, char **arguments) {
     if (!corners || corners > 1024 || failures)
         return printf("short: the frame was not read, or has no corner\n"), 1;
 
-    struct call growing = {"extend_from_labelled", call_grow, 8,
+    struct call growing = {"extend_from_labelled", call_grow, 9,
                            {GIVEN(xs, corners), LENT(ys, corners), LENT(pitches, corners), LENT(shades, corners),
-                            LENT(sheet, 16384), LENT(queue, 4 * corners), LENT(attached, corners), LENT(out, WORDS)}};
-    struct call filling = {"fill_grid_holes", call_fill, 7,
+                            LENT(sheet, 16384), LENT(around, BOX), LENT(queue, 4 * corners), LENT(attached, corners), LENT(out, WORDS)}};
+    struct call filling = {"fill_grid_holes", call_fill, 8,
                            {GIVEN(xs, corners), LENT(ys, corners), LENT(pitches, corners), LENT(shades, corners),
-                            LENT(sheet, 16384), LENT(attached, corners), LENT(out, WORDS)}};
-    struct call mapping = {"extend_via_local_homography", call_local, 7,
+                            LENT(sheet, 16384), LENT(around, BOX), LENT(attached, corners), LENT(out, WORDS)}};
+    struct call mapping = {"extend_via_local_homography", call_local, 8,
                            {GIVEN(xs, corners), LENT(ys, corners), LENT(pitches, corners), LENT(shades, corners),
-                            LENT(sheet, 16384), LENT(attached, corners), LENT(out, WORDS)}};
+                            LENT(sheet, 16384), LENT(around, BOX), LENT(attached, corners), LENT(out, WORDS)}};
     struct call *all[] = {&growing, &filling, &mapping};
     for (size_t k = 0; k < 3; k++) {
         made(all[k]);

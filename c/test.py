@@ -5,7 +5,7 @@
                               example frames, the refused ones too, the frames of compare/, every text of
                               compare/cases.py, refused ones included, and generated frames; where c/out/recover
                               cannot read or write, it has to say so on standard error and end with status 1; then
-                              runs c/out/short on accepted frames
+                              runs c/out/short on accepted frames (short buffers, refused values, every wrong label box)
     c/test.py --frames N      N generated frames (default 1000), --seed S from another seed
     c/test.py --built         does not build first
 
@@ -132,7 +132,7 @@ def main():
         done = subprocess.run([SHORT, path], capture_output=True, text=True, timeout=600)
         if done.returncode:
             sys.exit(f"c/test.py: {os.path.relpath(path, ROOT)}: {done.stdout[-2000:]}{done.stderr[-2000:]}{done.returncode}")
-    print(f"c/test.py: every buffer one place short, on {len(accepted)} frames: {done.stdout.strip()} on the last")
+    print(f"c/test.py: every buffer one place short and every wrong label box, on {len(accepted)} frames: {done.stdout.strip()} on the last")
 
 
 if __name__ == "__main__":

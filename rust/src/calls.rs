@@ -9,9 +9,12 @@
 //!
 //! No call keeps a pointer. The declarations are those of `c/projective_grid.h`: a slice is its start and its length.
 #![allow(unsafe_code)]
-use crate::sheet::{Sheet, PLACES};
-use crate::{Corner, FillParams, GrowParams, Kind, LocalParams, Refusal, RefusedFrame, Settings};
+use crate::sheet::{LabelBox, Sheet, PLACES};
+use crate::{Corner, FillParams, GrowParams, Kind, LocalParams, Pass, Refusal, RefusedFrame, Settings};
 use crate::{MAX_CORNERS, MAX_PASSES};
+
+#[cfg(test)]
+mod tests;
 
 /// The words that say a pass.
 pub(crate) const PASS_WORDS: usize = 6;
@@ -24,21 +27,24 @@ const LINES: usize = 1 + 3 * PLACES;
 extern "C" {
     fn projective_grid_extend_from_labelled(
         xs: *const f32, xs_len: usize, ys: *const f32, ys_len: usize, pitches: *const f32, pitches_len: usize,
-        shades: *const u8, shades_len: usize, sheet: *mut u16, sheet_len: usize, queue: *mut u16, queue_len: usize, attached: *mut u16, attached_len: usize,
+        shades: *const u8, shades_len: usize, sheet: *mut u16, sheet_len: usize, around: *mut i32, around_len: usize,
+        queue: *mut u16, queue_len: usize, attached: *mut u16, attached_len: usize,
         cell_size: f32, axis_i_x: f32, axis_i_y: f32, axis_j_x: f32, axis_j_y: f32, edge_length_tol: f32,
         attach_search_rel: f32, attach_ambiguity_factor: f32, boundary_search_factor: f32,
         out: *mut u32, out_len: usize,
     ) -> u32;
     fn projective_grid_fill_grid_holes(
         xs: *const f32, xs_len: usize, ys: *const f32, ys_len: usize, pitches: *const f32, pitches_len: usize,
-        shades: *const u8, shades_len: usize, sheet: *mut u16, sheet_len: usize, attached: *mut u16, attached_len: usize,
+        shades: *const u8, shades_len: usize, sheet: *mut u16, sheet_len: usize, around: *mut i32, around_len: usize,
+        attached: *mut u16, attached_len: usize,
         cell_size: f32, axis_i_x: f32, axis_i_y: f32, axis_j_x: f32, axis_j_y: f32, edge_length_tol: f32,
         attach_search_rel: f32, attach_ambiguity_factor: f32, max_iters: u32,
         out: *mut u32, out_len: usize,
     ) -> u32;
     fn projective_grid_extend_via_local_homography(
         xs: *const f32, xs_len: usize, ys: *const f32, ys_len: usize, pitches: *const f32, pitches_len: usize,
-        shades: *const u8, shades_len: usize, sheet: *mut u16, sheet_len: usize, attached: *mut u16, attached_len: usize,
+        shades: *const u8, shades_len: usize, sheet: *mut u16, sheet_len: usize, around: *mut i32, around_len: usize,
+        attached: *mut u16, attached_len: usize,
         cell_size: f32, axis_i_x: f32, axis_i_y: f32, axis_j_x: f32, axis_j_y: f32, edge_length_tol: f32,
         search_rel: f32, ambiguity_factor: f32, max_iters: u32, max_residual_rel: f32, extend_depth: u32,
         out: *mut u32, out_len: usize,
@@ -46,8 +52,9 @@ extern "C" {
     fn projective_grid_read_frame(
         text: *const u8, text_len: usize,
         xs: *mut f32, xs_len: usize, ys: *mut f32, ys_len: usize, pitches: *mut f32, pitches_len: usize,
-        shades: *mut u8, shades_len: usize, sheet: *mut u16, sheet_len: usize, passes: *mut u32, passes_len: usize,
-        settings: *mut f32, settings_len: usize, out: *mut u32, out_len: usize,
+        shades: *mut u8, shades_len: usize, sheet: *mut u16, sheet_len: usize, around: *mut i32, around_len: usize,
+        passes: *mut u32, passes_len: usize, settings: *mut f32, settings_len: usize,
+        out: *mut u32, out_len: usize,
     ) -> u32;
     fn projective_grid_write_result_piece(
         corners: usize, passes: usize, words: *const u32, words_len: usize, sheet: *const u16, sheet_len: usize,
@@ -111,14 +118,16 @@ fn done(answer: u32) -> Result<(), Refusal> {
 }
 
 /// What a pass did: its eleven words, and the places of its new cells and, for grow, of its visited ones, in order.
+#[derive(Debug, PartialEq, Eq)]
 pub(crate) struct Done {
     pub(crate) words: [u32; OUTCOME_WORDS],
     pub(crate) attached: Vec<u16>,
     pub(crate) visited: Vec<u16>,
 }
 
-/// The buffers of a pass over so many corners. No place of the sheet has the number 65,535, which the lists hold before.
-fn lent(corners: &Corners, queue_per_corner: usize) -> Done {
+/// The buffers of a pass. No place of the sheet has the number 65,535, which the lists hold before.
+fn lent(corners: &Corners, pass: &Pass) -> Done {
+    let queue_per_corner = if let Pass::Grow(_) = pass { 4 } else { 0 };
     Done {
         words: [0; OUTCOME_WORDS],
         attached: vec![u16::MAX; corners.len()],
@@ -137,54 +146,67 @@ impl Done {
     }
 }
 
-pub(crate) fn grow(c: &Corners, s: &Settings, p: &GrowParams, sheet: &mut Sheet) -> Result<Done, Refusal> {
-    let (mut b, places) = (lent(c, 4), sheet.places_mut());
-    // SAFETY: each start stands beside the length of the same slice. The sheet is borrowed mutably, queue, attached list
-    // and words are three fields of a local, and the lists that are only read are four vectors of `c`.
-    #[rustfmt::skip]
-    let answer = unsafe {
+/// Runs a pass on a sheet. It is lent these places for the label box, and the box that it writes there is kept.
+pub(crate) fn run(c: &Corners, s: &Settings, p: &Pass, sheet: &mut Sheet, around: &mut [i32]) -> Result<Done, Refusal> {
+    let mut b = lent(c, p);
+    done(pass(c, s, p, sheet.places_mut(), around, &mut b))?;
+    sheet.keep_box(around);
+    Ok(b.written())
+}
+
+/// The answer of a pass that is lent these places for sheet and label box, and these buffers.
+fn pass(c: &Corners, s: &Settings, p: &Pass, places: &mut [u16], around: &mut [i32], b: &mut Done) -> u32 {
+    match p {
+        Pass::Grow(p) => grow(c, s, p, places, around, b),
+        Pass::Fill(p) => fill(c, s, p, places, around, b),
+        Pass::Local(p) => local(c, s, p, places, around, b),
+    }
+}
+
+#[rustfmt::skip]
+fn grow(c: &Corners, s: &Settings, p: &GrowParams, places: &mut [u16], around: &mut [i32], b: &mut Done) -> u32 {
+    // SAFETY: each start stands beside the length of the same slice. Sheet, label box and `b` are borrowed mutably, each by
+    // itself, queue, attached list and words are three fields of `b`, and the lists that are only read are four vectors of `c`.
+    unsafe {
         projective_grid_extend_from_labelled(
             c.xs.as_ptr(), c.xs.len(), c.ys.as_ptr(), c.ys.len(), c.pitches.as_ptr(), c.pitches.len(),
-            c.shades.as_ptr(), c.shades.len(), places.as_mut_ptr(), places.len(), b.visited.as_mut_ptr(), b.visited.len(),
-            b.attached.as_mut_ptr(), b.attached.len(),
+            c.shades.as_ptr(), c.shades.len(), places.as_mut_ptr(), places.len(), around.as_mut_ptr(), around.len(),
+            b.visited.as_mut_ptr(), b.visited.len(), b.attached.as_mut_ptr(), b.attached.len(),
             s.cell_size, s.axis_i[0], s.axis_i[1], s.axis_j[0], s.axis_j[1], s.edge_length_tol,
             p.attach_search_rel, p.attach_ambiguity_factor, p.boundary_search_factor,
             b.words.as_mut_ptr(), b.words.len(),
         )
-    };
-    done(answer).map(|()| b.written())
+    }
 }
 
-pub(crate) fn fill(c: &Corners, s: &Settings, p: &FillParams, sheet: &mut Sheet) -> Result<Done, Refusal> {
-    let (mut b, places) = (lent(c, 0), sheet.places_mut());
+#[rustfmt::skip]
+fn fill(c: &Corners, s: &Settings, p: &FillParams, places: &mut [u16], around: &mut [i32], b: &mut Done) -> u32 {
     // SAFETY: as for `grow`, without a queue.
-    #[rustfmt::skip]
-    let answer = unsafe {
+    unsafe {
         projective_grid_fill_grid_holes(
             c.xs.as_ptr(), c.xs.len(), c.ys.as_ptr(), c.ys.len(), c.pitches.as_ptr(), c.pitches.len(),
-            c.shades.as_ptr(), c.shades.len(), places.as_mut_ptr(), places.len(), b.attached.as_mut_ptr(), b.attached.len(),
+            c.shades.as_ptr(), c.shades.len(), places.as_mut_ptr(), places.len(), around.as_mut_ptr(), around.len(),
+            b.attached.as_mut_ptr(), b.attached.len(),
             s.cell_size, s.axis_i[0], s.axis_i[1], s.axis_j[0], s.axis_j[1], s.edge_length_tol,
             p.attach_search_rel, p.attach_ambiguity_factor, p.max_iters,
             b.words.as_mut_ptr(), b.words.len(),
         )
-    };
-    done(answer).map(|()| b.written())
+    }
 }
 
-pub(crate) fn local(c: &Corners, s: &Settings, p: &LocalParams, sheet: &mut Sheet) -> Result<Done, Refusal> {
-    let (mut b, places) = (lent(c, 0), sheet.places_mut());
+#[rustfmt::skip]
+fn local(c: &Corners, s: &Settings, p: &LocalParams, places: &mut [u16], around: &mut [i32], b: &mut Done) -> u32 {
     // SAFETY: as for `grow`, without a queue.
-    #[rustfmt::skip]
-    let answer = unsafe {
+    unsafe {
         projective_grid_extend_via_local_homography(
             c.xs.as_ptr(), c.xs.len(), c.ys.as_ptr(), c.ys.len(), c.pitches.as_ptr(), c.pitches.len(),
-            c.shades.as_ptr(), c.shades.len(), places.as_mut_ptr(), places.len(), b.attached.as_mut_ptr(), b.attached.len(),
+            c.shades.as_ptr(), c.shades.len(), places.as_mut_ptr(), places.len(), around.as_mut_ptr(), around.len(),
+            b.attached.as_mut_ptr(), b.attached.len(),
             s.cell_size, s.axis_i[0], s.axis_i[1], s.axis_j[0], s.axis_j[1], s.edge_length_tol,
             p.search_rel, p.ambiguity_factor, p.max_iters, p.max_residual_rel, p.extend_depth,
             b.words.as_mut_ptr(), b.words.len(),
         )
-    };
-    done(answer).map(|()| b.written())
+    }
 }
 
 /// A frame as it is read: its settings, corners and given labels, and six words for each pass.
@@ -198,7 +220,7 @@ pub(crate) struct Read {
 pub(crate) fn read_frame(text: &[u8]) -> Result<Read, RefusedFrame> {
     let room = || vec![0.0; MAX_CORNERS];
     let (mut xs, mut ys, mut pitches, mut shades) = (room(), room(), room(), vec![0; MAX_CORNERS]);
-    let mut sheet = Sheet::empty();
+    let (mut sheet, mut around) = (Sheet::empty(), LabelBox::places(None));
     let places = sheet.places_mut();
     let mut passes = vec![0; PASS_WORDS * MAX_PASSES];
     let (mut floats, mut out) = ([0.0; 6], [0; 2]);
@@ -209,12 +231,13 @@ pub(crate) fn read_frame(text: &[u8]) -> Result<Read, RefusedFrame> {
         projective_grid_read_frame(
             text.as_ptr(), text.len(),
             xs.as_mut_ptr(), xs.len(), ys.as_mut_ptr(), ys.len(), pitches.as_mut_ptr(), pitches.len(),
-            shades.as_mut_ptr(), shades.len(), places.as_mut_ptr(), places.len(), passes.as_mut_ptr(), passes.len(),
-            floats.as_mut_ptr(), floats.len(), out.as_mut_ptr(), out.len(),
+            shades.as_mut_ptr(), shades.len(), places.as_mut_ptr(), places.len(), around.as_mut_ptr(), around.len(),
+            passes.as_mut_ptr(), passes.len(), floats.as_mut_ptr(), floats.len(), out.as_mut_ptr(), out.len(),
         )
     };
     // A refused frame's answer is the number plus 16 times the line.
     done(answer % 16).map_err(|refusal| RefusedFrame { refusal, line: answer / 16 })?;
+    sheet.keep_box(&around);
     let [corner_count, pass_count] = out;
     for list in [&mut xs, &mut ys, &mut pitches] {
         list.truncate(corner_count as usize);

@@ -32,7 +32,7 @@ pub use frame::{Frame, Outcome};
 pub use recovery::{Corner, FillOutcome, FillParams, GrowOutcome, GrowParams, Kind};
 pub use recovery::{LocalOutcome, LocalParams, Pass, PassOutcome, Recovery, Settings};
 pub use refusal::{Refusal, RefusedFrame};
-pub use sheet::{Cell, CornerNumber, Sheet};
+pub use sheet::{Cell, CornerNumber, LabelBox, Sheet};
 
 /// The most corners.
 pub const MAX_CORNERS: usize = 1024;

@@ -1,6 +1,6 @@
 //! A recovery: corners, settings and the sheet that the passes fill.
 use crate::calls::{self, Corners, Done};
-use crate::sheet::{Cell, CornerNumber, Sheet};
+use crate::sheet::{Cell, CornerNumber, LabelBox, Sheet};
 use crate::Refusal;
 
 /// The kind of a corner, on panels that print two.
@@ -220,8 +220,48 @@ impl Recovery {
 
     /// Grows from the labelled cells.
     pub fn grow(&mut self, params: GrowParams) -> Result<GrowOutcome, Refusal> {
-        let done = calls::grow(&self.corners, &self.settings, &params, &mut self.sheet)?;
-        let [_, _, no_candidate, ambiguous, edge, _, _, _, rim, ..] = self.noted(&done);
+        self.grow_lent(params, &mut self.kept_box())
+    }
+
+    /// Fills the holes of the labelled box and the strips along it.
+    pub fn fill(&mut self, params: FillParams) -> Result<FillOutcome, Refusal> {
+        self.fill_lent(params, &mut self.kept_box())
+    }
+
+    /// Extends by maps that are fitted to the four nearest labelled cells.
+    pub fn local(&mut self, params: LocalParams) -> Result<LocalOutcome, Refusal> {
+        self.local_lent(params, &mut self.kept_box())
+    }
+
+    /// Runs a pass of any kind.
+    pub fn run(&mut self, pass: Pass) -> Result<PassOutcome, Refusal> {
+        self.run_lent(pass, &mut self.kept_box())
+    }
+
+    /// Runs a pass that is lent these places for the label box, in place of the box that is kept with the sheet: a mark, 1
+    /// where there are no labels and else 0, then low i, high i, low j and high j, as [`LabelBox::places`] has them. For
+    /// those who keep the box themselves; all other passes hand the right one.
+    ///
+    /// Refused by [`Refusal::BufferTooShort`] if there are fewer than five places, and by [`Refusal::OutOfRange`] if the box
+    /// is not that of the sheet or the mark is neither 0 nor 1; the places are then as they were. With the mark 1 the four
+    /// numbers count for nothing. A pass that is done writes the box of the sheet that it leaves, which is also kept, and
+    /// leaves places behind the fifth as they were.
+    pub fn run_lent(&mut self, pass: Pass, around: &mut [i32]) -> Result<PassOutcome, Refusal> {
+        Ok(match pass {
+            Pass::Grow(params) => PassOutcome::Grow(self.grow_lent(params, around)?),
+            Pass::Fill(params) => PassOutcome::Fill(self.fill_lent(params, around)?),
+            Pass::Local(params) => PassOutcome::Local(self.local_lent(params, around)?),
+        })
+    }
+
+    /// The box that is kept with the sheet, as it is lent.
+    fn kept_box(&self) -> [i32; 5] {
+        LabelBox::places(self.sheet.label_box())
+    }
+
+    fn grow_lent(&mut self, params: GrowParams, around: &mut [i32]) -> Result<GrowOutcome, Refusal> {
+        let done = self.lent(Pass::Grow(params), around)?;
+        let [_, _, no_candidate, ambiguous, edge, _, _, _, rim, ..] = done.words;
         Ok(GrowOutcome {
             attached: cells(&done.attached),
             visited: cells(&done.visited),
@@ -232,18 +272,15 @@ impl Recovery {
         })
     }
 
-    /// Fills the holes of the labelled box and the strips along it.
-    pub fn fill(&mut self, params: FillParams) -> Result<FillOutcome, Refusal> {
-        let done = calls::fill(&self.corners, &self.settings, &params, &mut self.sheet)?;
-        let [_, _, _, _, _, rounds, _, _, rim, ..] = self.noted(&done);
+    fn fill_lent(&mut self, params: FillParams, around: &mut [i32]) -> Result<FillOutcome, Refusal> {
+        let done = self.lent(Pass::Fill(params), around)?;
+        let [_, _, _, _, _, rounds, _, _, rim, ..] = done.words;
         Ok(FillOutcome { added: cells(&done.attached), rounds, rim: rim == 1 })
     }
 
-    /// Extends by maps that are fitted to the four nearest labelled cells.
-    pub fn local(&mut self, params: LocalParams) -> Result<LocalOutcome, Refusal> {
-        let done = calls::local(&self.corners, &self.settings, &params, &mut self.sheet)?;
-        let [_, _, no_candidate, ambiguous, edge, rounds, has_residual, residual, rim, shaded, unmatched] =
-            self.noted(&done);
+    fn local_lent(&mut self, params: LocalParams, around: &mut [i32]) -> Result<LocalOutcome, Refusal> {
+        let done = self.lent(Pass::Local(params), around)?;
+        let [_, _, no_candidate, ambiguous, edge, rounds, has_residual, residual, rim, shaded, unmatched] = done.words;
         Ok(LocalOutcome {
             attached: cells(&done.attached),
             no_candidate,
@@ -256,19 +293,11 @@ impl Recovery {
         })
     }
 
-    /// Runs a pass of any kind.
-    pub fn run(&mut self, pass: Pass) -> Result<PassOutcome, Refusal> {
-        Ok(match pass {
-            Pass::Grow(params) => PassOutcome::Grow(self.grow(params)?),
-            Pass::Fill(params) => PassOutcome::Fill(self.fill(params)?),
-            Pass::Local(params) => PassOutcome::Local(self.local(params)?),
-        })
-    }
-
-    /// Keeps the words of a pass for the text.
-    fn noted(&mut self, done: &Done) -> [u32; calls::OUTCOME_WORDS] {
+    /// Runs a pass, and keeps its words for the text.
+    fn lent(&mut self, pass: Pass, around: &mut [i32]) -> Result<Done, Refusal> {
+        let done = calls::run(&self.corners, &self.settings, &pass, &mut self.sheet, around)?;
         self.words.extend_from_slice(&done.words);
-        done.words
+        Ok(done)
     }
 
     /// The sheet as the last pass left it.

@@ -10,7 +10,7 @@ pub enum Refusal {
     Malformed = 1,
     /// 2, "overfull": a limit on bytes, corners or passes is passed.
     OverLimit = 2,
-    /// 3, "wild": a number is not finite or is out of its range.
+    /// 3, "wild": a number is not finite or is out of its range, or a lent label box is not the sheet's.
     OutOfRange = 3,
     /// 4, "off sheet": the cell of a label is outside the sheet, or will be once the second set is moved (at the patch line).
     OffSheet = 4,
@@ -18,7 +18,8 @@ pub enum Refusal {
     UnknownCorner = 5,
     /// 6, "doubled": a cell or a corner is labelled twice in one set, or a corner is shaded twice.
     Duplicate = 6,
-    /// 7, "short": a lent buffer is too short. This crate lends none that is, so it does not come up.
+    /// 7, "short": a lent buffer is too short. It comes up only where
+    /// [`Recovery::run_lent`](crate::Recovery::run_lent) is given fewer than five places: this crate lends no other that is.
     BufferTooShort = 7,
     /// 8, "apart": a frame has two sets of labels and no corner is in both.
     NoSharedCorner = 8,

@@ -7,6 +7,8 @@ const SIDE: usize = 128;
 const LEAST: i8 = -64;
 /// Places of the sheet.
 pub(crate) const PLACES: usize = SIDE * SIDE;
+/// Places of its label box.
+const BOX: usize = 5;
 const CORNER_BITS: u16 = 0x3fff;
 const HOLE: u16 = 0x4000;
 const AMBIGUOUS: u16 = 0x8000;
@@ -82,17 +84,52 @@ impl fmt::Display for CornerNumber {
     }
 }
 
+/// The label box of a sheet that has labels: the lowest and highest labelled i and j.
+#[derive(Clone, Copy, Debug, PartialEq, Eq, Hash)]
+pub struct LabelBox {
+    /// The cell of the lowest i and the lowest j.
+    pub low: Cell,
+    /// The cell of the highest i and the highest j.
+    pub high: Cell,
+}
+
+impl LabelBox {
+    /// A box, or that of a sheet without labels, as the library takes it: a mark, 1 where there are no labels, then low i,
+    /// high i, low j and high j.
+    pub fn places(around: Option<LabelBox>) -> [i32; BOX] {
+        around.map_or([1, 0, 0, 0, 0], |LabelBox { low, high }| [0, low.i, high.i, low.j, high.j].map(i32::from))
+    }
+
+    /// The box that the library wrote.
+    pub(crate) fn of_places(places: &[i32]) -> Option<LabelBox> {
+        let line = |k: usize| i8::try_from(places[k]).expect("a line of the sheet");
+        let cell = |i, j| Cell::new(line(i), line(j)).expect("a cell of the sheet");
+        (places[0] == 0).then(|| LabelBox { low: cell(1, 3), high: cell(2, 4) })
+    }
+
+    /// The box with one cell more in it.
+    fn widened(around: Option<LabelBox>, cell: Cell) -> LabelBox {
+        let LabelBox { low, high } = around.unwrap_or(LabelBox { low: cell, high: cell });
+        LabelBox {
+            low: Cell { i: low.i.min(cell.i), j: low.j.min(cell.j) },
+            high: Cell { i: high.i.max(cell.i), j: high.j.max(cell.j) },
+        }
+    }
+}
+
 /// A sheet of 128 by 128 cells. Each holds a corner or none, a hole mark and an ambiguous mark.
 ///
-/// A sheet is read only and belongs to its [`Recovery`](crate::Recovery): none but the passes write to it.
+/// A sheet is read only and belongs to its [`Recovery`](crate::Recovery): none but the passes write to it. Its label box is
+/// kept with it.
 #[derive(Clone, PartialEq, Eq)]
 pub struct Sheet {
     places: Box<[u16; PLACES]>,
+    around: Option<LabelBox>,
 }
 
 impl Sheet {
     pub(crate) fn empty() -> Sheet {
-        Sheet { places: Box::new([0; PLACES]) }
+        Sheet { places: Box::new([0; PLACES]), around: None }
     }
 
     pub(crate) fn places(&self) -> &[u16; PLACES] {
@@ -103,6 +140,11 @@ impl Sheet {
         &mut self.places
     }
 
+    /// Keeps the box that the call which wrote the places has written.
+    pub(crate) fn keep_box(&mut self, places: &[i32]) {
+        self.around = LabelBox::of_places(places);
+    }
+
     /// Labels a cell that has no corner; false if it has one.
     pub(crate) fn give(&mut self, cell: Cell, corner: CornerNumber) -> bool {
         let place = &mut self.places[cell.place()];
@@ -110,7 +152,13 @@ impl Sheet {
             return false;
         }
         *place |= corner.0 + 1;
+        self.around = Some(LabelBox::widened(self.around, cell));
         true
+    }
+
+    /// The label box, or none where no cell is labelled.
+    pub fn label_box(&self) -> Option<LabelBox> {
+        self.around
     }
 
     /// The corner that the cell is labelled with.
@@ -154,6 +202,7 @@ impl fmt::Debug for Sheet {
     fn fmt(&self, f: &mut fmt::Formatter<'_>) -> fmt::Result {
         f.debug_struct("Sheet")
             .field("labelled", &self.labelled().collect::<Vec<_>>())
+            .field("around", &self.around)
             .field("holes", &self.holes().collect::<Vec<_>>())
             .field("ambiguous", &self.ambiguous().collect::<Vec<_>>())
             .finish()
