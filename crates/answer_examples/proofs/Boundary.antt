@@ -37,16 +37,16 @@ use Rattle.arguments.specs.Arguments.{outside}
 use Rattle.line_form.specs.Lines.{lines_of}
 use Rattle.line_form.specs.Written.{unheld_whole}
 use Rattle.frame_line.specs.Checks.{wild_bits, number_outside, some_outside, outside_line}
-use Rattle.frame_check.specs.Checks.{checks_in_order, over_limit, twice_of}
+use Rattle.frame_check.specs.Checks.{checks_in_order, over_limit, twice_of, may_run, forbidden}
 use Rattle.answer_examples.specs.Paper.{example_result}
 use Rattle.answer_examples.specs.Boundary.{bare_text, old_text, bare_frame, old_frame, bare_result, BoundaryAnswered}
 
 bare_read : read_frame bare_text ≡ accepted bare_frame
-unfolding of_bits of_int le lt eq digits digit_value read_digits ends_of outside decimal_up_to decimal integer_text digits_after read_positive read_integer unheld_whole number_text printed piece_of fit_of lines_of rows row_at kind_at form_at turn_at may_end sort_of sort_at line_text bits_at whole_at pass_line_of first_fit read_line wild_bits number_outside some_outside outside_line checks_in_order over_limit twice_of opened adding parts_from parts_of some_of checked_line join_of finish step_line at_end read_lines read_frame
+unfolding of_bits of_int le lt eq digits digit_value read_digits ends_of outside decimal_up_to decimal integer_text digits_after read_positive read_integer unheld_whole number_text printed piece_of fit_of lines_of rows row_at kind_at form_at turn_at may_end sort_of sort_at line_text bits_at whole_at pass_line_of first_fit read_line wild_bits number_outside some_outside outside_line checks_in_order over_limit twice_of may_run forbidden opened adding parts_from parts_of some_of checked_line join_of finish step_line at_end read_lines read_frame
 bare_read = refl
 
 old_read : read_frame old_text ≡ accepted old_frame
-unfolding of_bits of_int le lt eq digits digit_value read_digits ends_of outside decimal_up_to decimal integer_text digits_after read_positive read_integer unheld_whole number_text printed piece_of fit_of lines_of rows row_at kind_at form_at turn_at may_end sort_of sort_at line_text bits_at whole_at pass_line_of first_fit read_line wild_bits number_outside some_outside outside_line checks_in_order over_limit twice_of opened adding parts_from parts_of some_of checked_line join_of finish step_line at_end read_lines read_frame
+unfolding of_bits of_int le lt eq digits digit_value read_digits ends_of outside decimal_up_to decimal integer_text digits_after read_positive read_integer unheld_whole number_text printed piece_of fit_of lines_of rows row_at kind_at form_at turn_at may_end sort_of sort_at line_text bits_at whole_at pass_line_of first_fit read_line wild_bits number_outside some_outside outside_line checks_in_order over_limit twice_of may_run forbidden opened adding parts_from parts_of some_of checked_line join_of finish step_line at_end read_lines read_frame
 old_read = refl
 
 bare_computed : run_text (frame_run bare_frame) ≡ bare_result

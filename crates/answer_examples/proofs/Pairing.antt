@@ -18,7 +18,7 @@ use Rattle.line_form.specs.Written.{unheld_whole}
 use Rattle.frame_line.specs.Table.{rows, row_at, kind_at, form_at, turn_at, may_end, sort_of, sort_at}
 use Rattle.frame_line.specs.Lines.{bits_at, whole_at, pass_line_of, first_fit, read_line}
 use Rattle.frame_line.specs.Checks.{wild_bits, number_outside, some_outside, outside_line}
-use Rattle.frame_check.specs.Checks.{checks_in_order, over_limit, twice_of}
+use Rattle.frame_check.specs.Checks.{checks_in_order, over_limit, twice_of, may_run, forbidden}
 use Rattle.frame.specs.Frame.{opened, adding, parts_from, parts_of, some_of, checked_line, accepted, step_line, at_end, read_lines, read_frame, finish, join_of}
 use Rattle.frame.specs.ReadFrame.{shaded, shades_of}
 use Rattle.frame_agreement.specs.Reordering.{corner_line, corner_shade, SameShades, SameButOrder}
@@ -27,11 +27,11 @@ use Rattle.answer_examples.specs.Pair.{first_text, second_text, first_frame, sec
 -- ---- the texts are read
 
 pub first_read : read_frame first_text ≡ accepted first_frame
-unfolding of_bits of_int le lt eq digit_value read_digits ends_of outside digits_after read_positive read_integer piece_of fit_of lines_of unheld_whole rows row_at kind_at form_at turn_at may_end sort_of sort_at bits_at whole_at pass_line_of first_fit read_line wild_bits number_outside some_outside outside_line checks_in_order over_limit twice_of opened adding parts_from parts_of some_of checked_line join_of finish step_line at_end read_lines read_frame
+unfolding of_bits of_int le lt eq digit_value read_digits ends_of outside digits_after read_positive read_integer piece_of fit_of lines_of unheld_whole rows row_at kind_at form_at turn_at may_end sort_of sort_at bits_at whole_at pass_line_of first_fit read_line wild_bits number_outside some_outside outside_line checks_in_order over_limit twice_of may_run forbidden opened adding parts_from parts_of some_of checked_line join_of finish step_line at_end read_lines read_frame
 first_read = refl
 
 pub second_read : read_frame second_text ≡ accepted second_frame
-unfolding of_bits of_int le lt eq digit_value read_digits ends_of outside digits_after read_positive read_integer piece_of fit_of lines_of unheld_whole rows row_at kind_at form_at turn_at may_end sort_of sort_at bits_at whole_at pass_line_of first_fit read_line wild_bits number_outside some_outside outside_line checks_in_order over_limit twice_of opened adding parts_from parts_of some_of checked_line join_of finish step_line at_end read_lines read_frame
+unfolding of_bits of_int le lt eq digit_value read_digits ends_of outside digits_after read_positive read_integer piece_of fit_of lines_of unheld_whole rows row_at kind_at form_at turn_at may_end sort_of sort_at bits_at whole_at pass_line_of first_fit read_line wild_bits number_outside some_outside outside_line checks_in_order over_limit twice_of may_run forbidden opened adding parts_from parts_of some_of checked_line join_of finish step_line at_end read_lines read_frame
 second_read = refl
 
 -- ---- the pairing

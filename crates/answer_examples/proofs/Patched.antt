@@ -36,7 +36,7 @@ use Rattle.line_form.specs.Written.{unheld_whole}
 use Rattle.frame_line.specs.Table.{kind_at, rows, row_at, form_at, turn_at, may_end, sort_of, sort_at}
 use Rattle.frame_line.specs.Lines.{bits_at, whole_at, pass_line_of, first_fit, read_line}
 use Rattle.frame_line.specs.Checks.{wild_bits, number_outside, some_outside, outside_line}
-use Rattle.frame_check.specs.Checks.{checks_in_order, over_limit, twice_of}
+use Rattle.frame_check.specs.Checks.{checks_in_order, over_limit, twice_of, may_run, forbidden}
 use Rattle.frame.specs.Frame.{opened, adding, parts_from, parts_of, some_of, checked_line, accepted, step_line, at_end, read_lines, read_frame, finish, given_of, join_of}
 use Rattle.frame.specs.ReadFrame.{xs_of, ys_of, pitches_of, shaded, shades_of, settings_of, full_of, pass_of, sheet_of}
 use Rattle.frame_laws.specs.Calls.{frame_corners, calls_of}
@@ -62,11 +62,11 @@ use Rattle.answer_examples.specs.Patched.{patched_text, turned_text, patched_fra
 -- ---- the texts are read
 
 first_read : read_frame patched_text ≡ accepted patched_frame
-unfolding of_bits of_int le lt eq digit_value read_digits ends_of outside digits_after read_positive read_integer piece_of fit_of lines_of unheld_whole rows row_at kind_at form_at turn_at may_end sort_of sort_at bits_at whole_at pass_line_of first_fit read_line wild_bits number_outside some_outside outside_line checks_in_order over_limit twice_of opened adding parts_from parts_of some_of checked_line every kept cell_in asks asked agree agrees_in on_sheet tested toldJoin verdict is_found new_by union joined_by joined join_of finish step_line at_end read_lines read_frame
+unfolding of_bits of_int le lt eq digit_value read_digits ends_of outside digits_after read_positive read_integer piece_of fit_of lines_of unheld_whole rows row_at kind_at form_at turn_at may_end sort_of sort_at bits_at whole_at pass_line_of first_fit read_line wild_bits number_outside some_outside outside_line checks_in_order over_limit twice_of may_run forbidden opened adding parts_from parts_of some_of checked_line every kept cell_in asks asked agree agrees_in on_sheet tested toldJoin verdict is_found new_by union joined_by joined join_of finish step_line at_end read_lines read_frame
 first_read = refl
 
 second_read : read_frame turned_text ≡ accepted turned_frame
-unfolding of_bits of_int le lt eq digit_value read_digits ends_of outside digits_after read_positive read_integer piece_of fit_of lines_of unheld_whole rows row_at kind_at form_at turn_at may_end sort_of sort_at bits_at whole_at pass_line_of first_fit read_line wild_bits number_outside some_outside outside_line checks_in_order over_limit twice_of opened adding parts_from parts_of some_of checked_line every kept cell_in asks asked agree agrees_in on_sheet tested toldJoin verdict is_found new_by union joined_by joined join_of finish step_line at_end read_lines read_frame
+unfolding of_bits of_int le lt eq digit_value read_digits ends_of outside digits_after read_positive read_integer piece_of fit_of lines_of unheld_whole rows row_at kind_at form_at turn_at may_end sort_of sort_at bits_at whole_at pass_line_of first_fit read_line wild_bits number_outside some_outside outside_line checks_in_order over_limit twice_of may_run forbidden opened adding parts_from parts_of some_of checked_line every kept cell_in asks asked agree agrees_in on_sheet tested toldJoin verdict is_found new_by union joined_by joined join_of finish step_line at_end read_lines read_frame
 second_read = refl
 
 -- ---- the union

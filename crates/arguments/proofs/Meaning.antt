@@ -130,6 +130,7 @@ module _ (l : Lent) (settings : Settings) (pass : Pass) where
   meant (Err Refusal.OffSheet) w = absurd w
   meant (Err Refusal.NoSharedCorner) w = absurd w
   meant (Err Refusal.PatchesClash) w = absurd w
+  meant (Err Refusal.NotPermitted) w = absurd w
 
 pub refused_exactly_if : RefusedExactlyIf
 refused_exactly_if l settings pass answer = (λ e. subst (Meaning l settings pass) e (means l settings pass), meant l settings pass answer)

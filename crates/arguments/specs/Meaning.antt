@@ -50,6 +50,7 @@ RefusedFor l settings pass Refusal.Malformed = ⊥
 RefusedFor l settings pass Refusal.OffSheet = ⊥
 RefusedFor l settings pass Refusal.NoSharedCorner = ⊥
 RefusedFor l settings pass Refusal.PatchesClash = ⊥
+RefusedFor l settings pass Refusal.NotPermitted = ⊥
 
 -- what each answer of the checks means
 abbrev pub Meaning : Lent → Settings → Pass → Checked → Type 0

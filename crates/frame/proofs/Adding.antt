@@ -13,6 +13,7 @@ use lib.ListN.{length, get_or, set, take, drop, length-set, length-take, length-
 use lib.Dec.{eqb, ltb}
 use lib.Seq.{get_or-set_same, get_or-set_other, take-suc-set, take_at}
 use lib.Ieee.{Float}
+use Rattle.roles.specs.declared.Role.{Role}
 use Rattle.sheet.specs.Cells.{eq_z, OnSheet, place_of}
 use Rattle.sheet.specs.declared.Cell.{Cell}
 use Rattle.sheet.proofs.Laws.{place_in, cell_place, place_one}
@@ -32,7 +33,7 @@ use Rattle.join_sheet.specs.Held.{LabelHeld}
 use Rattle.join_sheet.specs.declared.SecondLabel.{SecondLabel}
 use Rattle.join_sheet.proofs.OneMore.{labels_more, held_more, second_more}
 use Rattle.line_form.specs.Held.{held_up_to}
-use Rattle.frame_line.specs.Lines.{Line, kind_of, Proper, label_line_of, whole_at, CornerLine, corner_line_of, LabelLine, ShadeLine, shade_line_of, PassLine, pass_line_of}
+use Rattle.frame_line.specs.Lines.{Line, kind_of, Proper, label_line_of, whole_at, CornerLine, corner_line_of, LabelLine, ShadeLine, shade_line_of, pass_line_of}
 use Rattle.frame_line.specs.Checks.{outside_line}
 use Rattle.frame_line.specs.Held.{count_in, held_line, label_in, shade_in, outside_held}
 use Rattle.frame_line.specs.declared.Kind.{Kind}
@@ -45,13 +46,13 @@ use Rattle.frame_line.specs.declared.HeldLabel.{HeldLabel}
 use Rattle.frame_line.specs.declared.HeldShade.{HeldShade}
 use Rattle.frame_line.proofs.Shapes.{bits_held, whole_held}
 use Rattle.frame_line.proofs.Words.{tame_count}
-use Rattle.frame_check.specs.Checks.{checks_in_order, over_limit, label_twice, shade_twice, twice_of, has_place, checked_held, is_set, is_used, nothing_held}
+use Rattle.frame_check.specs.Checks.{checks_in_order, over_limit, label_twice, shade_twice, twice_of, forbidden, has_place, checked_held, is_set, is_used, nothing_held}
 use Rattle.frame_check.proofs.Laws.{checks_alike, AllFine, fine_all}
 use Rattle.sizes.specs.Sizes.{corner_limit, pass_limit, place_count, all_pass_words}
 use Rattle.frame_state.specs.State.{patched_of, second_of, with_opening, label_to, shade_put, words_in, words_put, State, adds_as, adds, at_stage, nothing_said, state}
 use Rattle.frame_state.proofs.Laws.{many_room}
 use Rattle.frame_state.proofs.Around.{label_found, nothing_found}
-use Rattle.frame.specs.Frame.{outside_in, over_in, twice_in, Parts, some_of, doubled, open_labels, placed, shaded_before, checked_line, opened, adding, added, no_parts}
+use Rattle.frame.specs.Frame.{RoledPass, outside_in, over_in, twice_in, forbidden_in, Parts, some_of, doubled, open_labels, placed, shaded_before, checked_line, opened, adding, added, no_parts}
 use Rattle.frame.specs.Text.{Sound}
 use Rattle.frame.specs.Reading.{cell_taken, corner_taken, corner_shaded, HoldsUsed, CheckedLabels, HoldsLabels, HoldsSecond, HoldsShades, Holds, HoldsCorners, HoldsPasses, FrameHeld}
 use Rattle.frame.specs.ReadFrame.{float_of, settings_in, shaded, FullPass, full_grow, full_fill, full_local, full_of, words_of, all_words}
@@ -78,11 +79,11 @@ some_either f g (a ∷ l) = ap (λ (t : Bool). (f a || g a) || t) (some_either f
 
 -- what is found of a line that passes its checks
 abbrev pub FineLine : Parts → Line → Type 0
-FineLine p l = AllFine (outside_in p l) (over_in p (kind_of l)) (twice_in p (kind_of l) l.numbers)
+FineLine p l = AllFine (outside_in p l) (over_in p (kind_of l)) (twice_in p (kind_of l) l.numbers) (forbidden_in p (kind_of l))
 
 pub line_fine : (p : Parts) (l : Line) → checked_line p l ≡ Ok tt → FineLine p l
 unfolding checked_line
-line_fine p l c = fine_all (outside_in p l) _ _ c
+line_fine p l c = fine_all (outside_in p l) _ _ _ c
 
 -- doubled is asked of labels and of shades alone
 pub twice_alike : (kind : Kind) {a b c d : Bool} → (kind ≡ Kind.Label → a ≡ b) → (kind ≡ Kind.Shade → c ≡ d) → twice_of kind a c ≡ twice_of kind b d
@@ -92,6 +93,7 @@ twice_alike Kind.Corner h i = refl
 twice_alike Kind.Label h i = h refl
 twice_alike Kind.Patch h i = refl
 twice_alike Kind.Shade h i = i refl
+twice_alike (Kind.As r) h i = refl
 twice_alike (Kind.Pass p) h i = refl
 
 module _ (f : Parts) (s : State) (g : FrameHeld f s) (l : Line) (p : Proper l) where
@@ -123,16 +125,19 @@ module _ (f : Parts) (s : State) (g : FrameHeld f s) (l : Line) (p : Proper l) w
 
   -- all checks
   pub checks_agree :
-      checked_held s.progress.corners s.progress.passes (patched_of s.progress) s.held (second_of s.progress) (held_line l)
+      checked_held s.progress.corners s.progress.passes s.progress.role (patched_of s.progress) s.held (second_of s.progress) (held_line l)
       ≡ checked_line f l
   unfolding checked_held checked_line
   checks_agree =
       checks_alike (λ r. outside_held r s.progress.corners (held_line l)) (λ r. outside_line r s.progress.corners l)
-      (over_limit s.progress.corners s.progress.passes (kind_of l)) _ _
+      (over_limit s.progress.corners s.progress.passes (kind_of l)) _ _ (forbidden s.progress.role (kind_of l))
       (λ r. outside_held_lem r s.progress.corners l g.corners.xs_held.some p)
       (λ off known. twice_alike (kind_of l) (twice off known) (twice_shaded known))
-      ∙ ap₂ (λ (i j : ℕ). checks_in_order (λ r. outside_line r i l) (over_limit i j (kind_of l)) (twice_in f (kind_of l) l.numbers)) g.corners.count
-      g.passes.count
+      ∙ ap₂
+      (λ (i j : ℕ).
+      checks_in_order (λ r. outside_line r i l) (over_limit i j (kind_of l)) (twice_in f (kind_of l) l.numbers) (forbidden s.progress.role (kind_of l)))
+      g.corners.count g.passes.count
+      ∙ ap (λ (r : Role). checks_in_order (outside_in f l) (over_in f (kind_of l)) (twice_in f (kind_of l) l.numbers) (forbidden r (kind_of l))) g.role
 
 -- ---- one more at the end
 
@@ -147,11 +152,12 @@ unfolding shaded
 shaded_more shades [] s = refl
 shaded_more shades (t ∷ ss) s = shaded_more (set shades (nat_abs t.corner) (nat_abs t.kind + 1)) ss s
 
-words_more : (ps : List PassLine) (p : PassLine) → all_words (ps ++ (p ∷ [])) ≡ all_words ps ++ words_of (full_of p)
+words_more : (ps : List RoledPass) (p : RoledPass) → all_words (ps ++ (p ∷ [])) ≡ all_words ps ++ words_of p.role (full_of p.pass)
 unfolding all_words
 words_more [] p = simp append-nil
 words_more (q ∷ ps) p =
-    ap (λ (l : List ℕ). words_of (full_of q) ++ l) (words_more ps p) ∙ sym (append_assoc (words_of (full_of q)) (all_words ps) (words_of (full_of p)))
+    let w = words_of q.role (full_of q.pass) in
+    ap (λ (l : List ℕ). w ++ l) (words_more ps p) ∙ sym (append_assoc w (all_words ps) (words_of p.role (full_of p.pass)))
 
 some_more : {A : Type 0} (f : A → Bool) (rest : List A) (a : A) → some_of f (rest ++ (a ∷ [])) ≡ (some_of f rest || f a)
 unfolding some_of
@@ -332,22 +338,22 @@ put_held {n = n} {entries = entries} g w k e room =
           ∙ ap (λ (l : List ℕ). l ++ w) g.are;
     }
 
-six_words : (p : FullPass) → length (words_of p) ≡ 6
+seven_words : (r : Role) (p : FullPass) → length (words_of r p) ≡ 7
 unfolding words_of
-six_words (full_grow search factor boundary) = refl
-six_words (full_fill search factor rounds) = refl
-six_words (full_local search factor rounds residual depth) = refl
+seven_words r (full_grow search factor boundary) = refl
+seven_words r (full_fill search factor rounds) = refl
+seven_words r (full_local search factor rounds residual depth) = refl
 
-pass_held : {ps : List PassLine} {m : ℕ} {words : List ℕ} → HoldsPasses ps m words → m < pass_limit → (p : PassLine) (w : List ℕ)
-    → w ≡ words_of (full_of p)
+pass_held : {ps : List RoledPass} {m : ℕ} {words : List ℕ} → HoldsPasses ps m words → m < pass_limit → (p : RoledPass) (w : List ℕ)
+    → w ≡ words_of p.role (full_of p.pass)
     → HoldsPasses (ps ++ (p ∷ [])) (m + 1) (words_put m w words)
 pass_held {ps} {m} {words} g h p w e =
-    let six : length w ≡ 6 = ap length e ∙ six_words (full_of p) in
-    let all = put_held g.words_held w (6 * m + 6) (omega (arith, six)) (omega arith) in
-    let next : 6 * m + 6 ≡ 6 * (m + 1) = omega arith in
+    let seven : length w ≡ 7 = ap length e ∙ seven_words p.role (full_of p.pass) in
+    let all = put_held g.words_held w (7 * m + 7) (omega (arith, seven)) (omega arith) in
+    let next : 7 * m + 7 ≡ 7 * (m + 1) = omega arith in
     record {
       count = simp length-append (omega (arith, g.count));
-      words_held = rw (words_more ps p, ← e) (subst (λ (k : ℕ). Holds 96 k (words_put m w words) (all_words ps ++ w)) next all);
+      words_held = rw (words_more ps p, ← e) (subst (λ (k : ℕ). Holds 112 k (words_put m w words) (all_words ps ++ w)) next all);
     }
 
 -- ---- any line
@@ -370,20 +376,21 @@ module _ (f : Parts) (s : State) (g : FrameHeld f s) (l : Line) (p : Proper l) (
   settings_added OpeningKind.Band e = rw (bits_held l p (Kind.Opening OpeningKind.Band) e 0 (omega arith) refl, g.settings_are)
 
   -- the words of a pass whose numbers are in range
-  words_agree : (k : PassKind) → kind_of l ≡ Kind.Pass k → words_in k (held_up_to 5 l.numbers) ≡ words_of (full_of (pass_line_of k l.numbers))
+  words_agree : (r : Role) (k : PassKind) → kind_of l ≡ Kind.Pass k
+      → words_in r k (held_up_to 5 l.numbers) ≡ words_of r (full_of (pass_line_of k l.numbers))
   unfolding pass_line_of full_of words_of slots_of form_at row_at rows
-  words_agree PassKind.BareGrow e = refl
-  words_agree PassKind.Grow e =
+  words_agree r PassKind.BareGrow e = refl
+  words_agree r PassKind.Grow e =
       let b = bits_held l p (Kind.Pass PassKind.Grow) e in
       rw (b 0 (omega arith) refl, b 1 (omega arith) refl, b 2 (omega arith) refl)
-  words_agree PassKind.BareFill e = refl
-  words_agree PassKind.Fill e =
+  words_agree r PassKind.BareFill e = refl
+  words_agree r PassKind.Fill e =
       let b = bits_held l p (Kind.Pass PassKind.Fill) e in
       let tame = pass_said (length f.corners) l p w.ranges PassKind.Fill e in
       let c = whole_held l p (Kind.Pass PassKind.Fill) e in
       let rounds = ap count_in (c 2 (omega arith) refl) ∙ tame_count 64 (whole_at 2 l.numbers) (omega arith) tame.1.1 in
       rw (b 0 (omega arith) refl, b 1 (omega arith) refl, rounds)
-  words_agree PassKind.Local e =
+  words_agree r PassKind.Local e =
       let b = bits_held l p (Kind.Pass PassKind.Local) e in
       let c = whole_held l p (Kind.Pass PassKind.Local) e in
       let tame = pass_said (length f.corners) l p w.ranges PassKind.Local e in
@@ -406,6 +413,7 @@ module _ (f : Parts) (s : State) (g : FrameHeld f s) (l : Line) (p : Proper l) (
         patched = f.patched;
         second = cond t (f.second ++ (m ∷ [])) f.second;
         shades = f.shades;
+        role = f.role;
         passes = f.passes;
       }
 
@@ -421,6 +429,7 @@ module _ (f : Parts) (s : State) (g : FrameHeld f s) (l : Line) (p : Proper l) (
         patched = sym stands;
         second = second_held n s.held.second_used g.second_used_long g.second (second_room n);
         shades = g.shades;
+        role = g.role;
         passes = g.passes;
         box = g.box;
       }
@@ -434,6 +443,7 @@ module _ (f : Parts) (s : State) (g : FrameHeld f s) (l : Line) (p : Proper l) (
         patched = g.patched;
         second = g.second;
         shades = g.shades;
+        role = g.role;
         passes = g.passes;
         box = label_found false (record { corner = k; cell = (label_line_of l.numbers).cell }) s (omega (arith, g.labels.sheet_long)) (record { on = n.on; entry = n.small }) g.box;
       }
@@ -457,6 +467,7 @@ module _ (f : Parts) (s : State) (g : FrameHeld f s) (l : Line) (p : Proper l) (
         patched = g.patched;
         second = g.second;
         shades = g.shades;
+        role = g.role;
         passes = g.passes;
         box = g.box;
       }
@@ -474,6 +485,7 @@ module _ (f : Parts) (s : State) (g : FrameHeld f s) (l : Line) (p : Proper l) (
         patched = g.patched;
         second = g.second;
         shades = g.shades;
+        role = g.role;
         passes = g.passes;
         box = g.box;
       }
@@ -498,6 +510,7 @@ module _ (f : Parts) (s : State) (g : FrameHeld f s) (l : Line) (p : Proper l) (
         patched = refl;
         second = g.second;
         shades = g.shades;
+        role = g.role;
         passes = g.passes;
         box = g.box;
       }
@@ -519,6 +532,21 @@ module _ (f : Parts) (s : State) (g : FrameHeld f s) (l : Line) (p : Proper l) (
         shades =
             subst (λ (x : HeldShade). HoldsShades (f.shades ++ (m ∷ [])) (shade_put x s.held.shades)) so
             (shade_held_lem g.shades m h.is_corner_holds (omega (arith, h.given, few)));
+        role = g.role;
+        passes = g.passes;
+        box = g.box;
+      }
+  by_kind (Kind.As r) e =
+      record {
+        settings_are = g.settings_are;
+        corners = g.corners;
+        used_long = g.used_long;
+        second_used_long = g.second_used_long;
+        labels = g.labels;
+        patched = g.patched;
+        second = g.second;
+        shades = g.shades;
+        role = refl;
         passes = g.passes;
         box = g.box;
       }
@@ -533,7 +561,10 @@ module _ (f : Parts) (s : State) (g : FrameHeld f s) (l : Line) (p : Proper l) (
         patched = g.patched;
         second = g.second;
         shades = g.shades;
-        passes = pass_held g.passes (omega (arith, g.passes.count)) (pass_line_of k l.numbers) (words_in k (held_up_to 5 l.numbers)) (words_agree k e);
+        role = g.role;
+        passes =
+            pass_held g.passes (omega (arith, g.passes.count)) (record { role = f.role; pass = pass_line_of k l.numbers })
+            (words_in s.progress.role k (held_up_to 5 l.numbers)) (ap (λ (r : Role). words_in r k (held_up_to 5 l.numbers)) g.role ∙ words_agree f.role k e);
         box = g.box;
       }
 
@@ -552,6 +583,7 @@ restaged f s stage g =
       patched = g.patched;
       second = g.second;
       shades = g.shades;
+      role = g.role;
       passes = g.passes;
       box = g.box;
     }
@@ -611,6 +643,7 @@ nothing_read =
       patched = refl;
       second = no_second;
       shades = no_shades;
+      role = refl;
       passes = record { count = refl; words_held = holds_none all_pass_words 0 };
       box = nothing_found;
     }

@@ -103,7 +103,7 @@ module _ (f : Frame) (s : State) (g : FrameHeld (parts_of f) s) (text : List ℕ
 
 -- a line can be added where nothing is wrong with it
 pub step_addable : (s : State) (found : HeldLine) (checked : Checked)
-    → checked ≡ checked_held s.progress.corners s.progress.passes (patched_of s.progress) s.held (second_of s.progress) found → Room s → checked ≡ Ok tt
+    → checked ≡ checked_held s.progress.corners s.progress.passes s.progress.role (patched_of s.progress) s.held (second_of s.progress) found → Room s → checked ≡ Ok tt
     → Addable s.progress s.held found
 step_addable s found checked c g h =
     record { fine = sym c ∙ h; few = g.few; long = g.long; counted = g.counted }

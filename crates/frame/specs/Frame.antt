@@ -1,9 +1,10 @@
 -- A frame read from a text (document 01, "Frame and result"): "Byte length is tried first, as line 0; then lines from the top, each in order
--- 1 to 6. A missing line counts as the one after the last." Document 02, 3/14: the labels of two patches are joined "after all lines are read". Any
--- bytes give one accepted frame or one refusal. Definitions only.
+-- 1 to 6. A missing line counts as the one after the last." Document 02, 3/14: the labels of two patches are joined "after all lines are read"; and
+-- 6/14: an as line says who runs the passes behind it. Any bytes give one accepted frame or one refusal. Definitions only.
 use Rattle.std.specs.Prelude.{Bool, true, false, ◌||◌, cond, List, [], ◌∷◌, ◌++◌, map, ℕ, suc, ◌+◌, ltb, nat_abs, length, Ok, Err}
 use Rattle.sizes.specs.Sizes.{byte_limit}
 use Rattle.refusal.specs.declared.Refusal.{Refusal}
+use Rattle.roles.specs.declared.Role.{Role}
 use Rattle.sheet.specs.Cells.{eq_z}
 use Rattle.join.specs.Rule.{Placed}
 use Rattle.join.specs.Join.{same_cell, Joined, apart, clash, off, union_of, joined}
@@ -15,7 +16,7 @@ use Rattle.frame_line.specs.Checks.{outside_line}
 use Rattle.frame_line.specs.declared.Kind.{Kind}
 use Rattle.frame_line.specs.declared.OpeningKind.{OpeningKind}
 use Rattle.std.specs.Prelude.{Option, None, Some}
-use Rattle.frame_check.specs.Checks.{checks_in_order, over_limit, twice_of}
+use Rattle.frame_check.specs.Checks.{checks_in_order, over_limit, twice_of, forbidden}
 use Rattle.arguments.specs.Arguments.{Checked}
 
 -- a frame is its lines, in order
@@ -30,8 +31,13 @@ pub record Opening : Type 0 where
   pub axes : Axes
   pub band : ℕ
 
--- corners, labels, shades and passes in the order of their lines, the passes bare or full; whether the patch line stands, and the labels of the second
--- set, which it opens
+-- a pass line, bare or full, with the role that runs it
+pub record RoledPass : Type 0 where
+  pub role : Role
+  pub pass : PassLine
+
+-- corners, labels, shades and passes in the order of their lines; whether the patch line stands, and the labels of the second set, which it opens;
+-- and the role that holds
 pub record Parts : Type 0 where
   pub opening : Opening
   pub corners : List CornerLine
@@ -39,7 +45,8 @@ pub record Parts : Type 0 where
   pub patched : Bool
   pub second : List LabelLine
   pub shades : List ShadeLine
-  pub passes : List PassLine
+  pub role : Role
+  pub passes : List RoledPass
 
 unfoldable pub opened : OpeningKind → List Number → Opening → Opening
 opened OpeningKind.Frame ns o = o
@@ -57,6 +64,7 @@ with_opening o p =
       patched = p.patched;
       second = p.second;
       shades = p.shades;
+      role = p.role;
       passes = p.passes;
     }
 
@@ -69,6 +77,7 @@ with_corner c p =
       patched = p.patched;
       second = p.second;
       shades = p.shades;
+      role = p.role;
       passes = p.passes;
     }
 
@@ -82,6 +91,7 @@ with_label l p =
       patched = p.patched;
       second = cond p.patched (p.second ++ (l ∷ [])) p.second;
       shades = p.shades;
+      role = p.role;
       passes = p.passes;
     }
 
@@ -94,6 +104,7 @@ with_patch p =
       patched = true;
       second = p.second;
       shades = p.shades;
+      role = p.role;
       passes = p.passes;
     }
 
@@ -106,9 +117,25 @@ with_shade s p =
       patched = p.patched;
       second = p.second;
       shades = p.shades ++ (s ∷ []);
+      role = p.role;
       passes = p.passes;
     }
 
+-- "holds until the next such line"
+abbrev pub with_role : Role → Parts → Parts
+with_role r p =
+    record {
+      opening = p.opening;
+      corners = p.corners;
+      labels = p.labels;
+      patched = p.patched;
+      second = p.second;
+      shades = p.shades;
+      role = r;
+      passes = p.passes;
+    }
+
+-- a pass is run by the role that holds
 abbrev pub with_pass : PassLine → Parts → Parts
 with_pass q p =
     record {
@@ -118,16 +145,19 @@ with_pass q p =
       patched = p.patched;
       second = p.second;
       shades = p.shades;
-      passes = p.passes ++ (q ∷ []);
+      role = p.role;
+      passes = p.passes ++ (record { role = p.role; pass = q } ∷ []);
     }
 
--- the part that a line of a kind changes: 0 the opening, 1 the corners, 2 the labels of the open set, 3 the shades, 4 the passes, 5 which set is open
+-- the part that a line of a kind changes: 0 the opening, 1 the corners, 2 the labels of the open set, 3 the shades, 4 the passes, 5 which set is open,
+-- 6 the role that holds
 abbrev pub part_of : Kind → ℕ
 part_of (Kind.Opening o) = 0
 part_of Kind.Corner = 1
 part_of Kind.Label = 2
 part_of Kind.Patch = 5
 part_of Kind.Shade = 3
+part_of (Kind.As r) = 6
 part_of (Kind.Pass p) = 4
 
 -- what a line of a kind adds: the one part that it changes
@@ -137,6 +167,7 @@ adding Kind.Corner ns p = with_corner (corner_line_of ns) p
 adding Kind.Label ns p = with_label (label_line_of ns) p
 adding Kind.Patch ns p = with_patch p
 adding Kind.Shade ns p = with_shade (shade_line_of ns) p
+adding (Kind.As r) ns p = with_role r p
 adding (Kind.Pass k) ns p = with_pass (pass_line_of k ns) p
 
 abbrev pub added : Parts → Line → Parts
@@ -146,7 +177,7 @@ unfoldable pub parts_from : Parts → List Line → Parts
 parts_from p [] = p
 parts_from p (l ∷ ls) = parts_from (added p l) ls
 
--- before the first line
+-- before the first line; "without one it is plant"
 abbrev pub no_parts : Parts
 no_parts =
     record {
@@ -156,6 +187,7 @@ no_parts =
       patched = false;
       second = [];
       shades = [];
+      role = Role.Plant;
       passes = [];
     }
 
@@ -186,7 +218,7 @@ shaded_before ss s = some_of (λ t. eq_z t.corner s.corner) ss
 
 -- ---- the checks of a line in its turn, with what the lines before it said
 
--- some number of it has the refusal r; a line of its kind is one too many; it is doubled
+-- some number of it has the refusal r; a line of its kind is one too many; it is doubled; it is not for the role that holds
 abbrev pub outside_in : Parts → Line → ℕ → Bool
 outside_in p l r = outside_line r (length p.corners) l
 
@@ -196,8 +228,11 @@ over_in p kind = over_limit (length p.corners) (length p.passes) kind
 abbrev pub twice_in : Parts → Kind → List Number → Bool
 twice_in p kind ns = twice_of kind (doubled (open_labels p) (label_line_of ns)) (shaded_before p.shades (shade_line_of ns))
 
+abbrev pub forbidden_in : Parts → Kind → Bool
+forbidden_in p kind = forbidden p.role kind
+
 unfoldable pub checked_line : Parts → Line → Checked
-checked_line p l = checks_in_order (outside_in p l) (over_in p (kind_of l)) (twice_in p (kind_of l) l.numbers)
+checked_line p l = checks_in_order (outside_in p l) (over_in p (kind_of l)) (twice_in p (kind_of l) l.numbers) (forbidden_in p (kind_of l))
 
 -- ---- the join (document 02, 3/14)
 
@@ -272,7 +307,7 @@ finish_by (union_of u) f = accepted f
 unfoldable pub finish : Frame → FrameRead
 finish f = finish_by (join_of (parts_of f)) f
 
--- after the last line: "The first four lines must stand"
+-- after the last line: "The first four lines must stand", and behind an as line a pass; a missing one is number 1
 unfoldable pub at_end : ℕ → ℕ → Frame → FrameRead
 at_end n stage f = cond (may_end stage) (finish f) (refused_at Refusal.Malformed n)
 

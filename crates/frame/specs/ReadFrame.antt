@@ -4,6 +4,8 @@ use Rattle.std.specs.Prelude.{Bool, true, false, ◌||◌, List, [], ◌∷◌, 
 use Rattle.std.specs.Float.{binary32}
 use Rattle.std.specs.Float.Ieee.{of_bits}
 use Rattle.refusal.specs.declared.Refusal.{Refusal}
+use Rattle.roles.specs.Roles.{role_number}
+use Rattle.roles.specs.declared.Role.{Role}
 use Rattle.sheet.specs.Words.{empty_sheet}
 use Rattle.labels.specs.Kept.{box_kept}
 use Rattle.join.specs.Sheets.{labelled}
@@ -12,7 +14,7 @@ use Rattle.arguments.specs.declared.Settings.{Settings}
 use Rattle.frame_line.specs.Lines.{ShadeLine, PassLine, bare_grow_holds, grow, bare_fill, fill, local, bare_grow}
 use Rattle.arguments.specs.Front.{over}
 use Rattle.sizes.specs.Sizes.{corner_limit, place_count, all_pass_words}
-use Rattle.frame.specs.Frame.{Frame, Opening, parts_of, given_of, FrameRead, refused_at, accepted, read_frame}
+use Rattle.frame.specs.Frame.{Frame, Opening, RoledPass, parts_of, given_of, FrameRead, refused_at, accepted, read_frame}
 use Rattle.frame.specs.declared.FrameHead.{FrameHead}
 use Rattle.frame.specs.declared.FrameRefusal.{FrameRefusal}
 
@@ -97,16 +99,16 @@ pass_of (full_grow search factor boundary) = grow_of search factor boundary
 pass_of (full_fill search factor rounds) = fill_of search factor rounds
 pass_of (full_local search factor rounds residual depth) = local_of search factor rounds residual depth
 
--- the pass as six words: kind (0 grow, 1 fill, 2 local), search, factor, boundary or residual, rounds, depth; floats as their bits, and 0 for
--- what the pass has not
-unfoldable pub words_of : FullPass → List ℕ
-words_of (full_grow search factor boundary) = 0 ∷ search ∷ factor ∷ boundary ∷ 0 ∷ 0 ∷ []
-words_of (full_fill search factor rounds) = 1 ∷ search ∷ factor ∷ 0 ∷ rounds ∷ 0 ∷ []
-words_of (full_local search factor rounds residual depth) = 2 ∷ search ∷ factor ∷ residual ∷ rounds ∷ depth ∷ []
+-- the pass as seven words: kind (0 grow, 1 fill, 2 local), search, factor, boundary or residual, rounds, depth, and the role that runs it (0 plant,
+-- 1 depot, 2 dealer); floats as their bits, and 0 for what the pass has not
+unfoldable pub words_of : Role → FullPass → List ℕ
+words_of r (full_grow search factor boundary) = 0 ∷ search ∷ factor ∷ boundary ∷ 0 ∷ 0 ∷ role_number r ∷ []
+words_of r (full_fill search factor rounds) = 1 ∷ search ∷ factor ∷ 0 ∷ rounds ∷ 0 ∷ role_number r ∷ []
+words_of r (full_local search factor rounds residual depth) = 2 ∷ search ∷ factor ∷ residual ∷ rounds ∷ depth ∷ role_number r ∷ []
 
-unfoldable pub all_words : List PassLine → List ℕ
+unfoldable pub all_words : List RoledPass → List ℕ
 all_words [] = []
-all_words (p ∷ ps) = words_of (full_of p) ++ all_words ps
+all_words (q ∷ qs) = words_of q.role (full_of q.pass) ++ all_words qs
 
 -- ---- the library call
 
@@ -131,7 +133,7 @@ abbrev pub frame_out : Result FrameHead FrameRefusal → List Float → List Flo
 frame_out r xs ys pitches shades sheet passes =
     record { answer = r; buffers = record { xs = xs; ys = ys; pitches = pitches; shades = shades; sheet = sheet; passes = passes } }
 
--- 7: 1,024 places each for positions, pitches and shades, 16,384 sheet places, 16 passes of six words
+-- 7: 1,024 places each for positions, pitches and shades, 16,384 sheet places, 16 passes of seven words
 abbrev pub too_short : Buffers → Bool
 too_short b =
     ltb (length b.xs) corner_limit

@@ -11,7 +11,7 @@ use Rattle.join.specs.Rule.{Placed, All}
 use Rattle.join.specs.Join.{same_cell}
 use Rattle.join.specs.Sheets.{labelled}
 use Rattle.join_sheet.specs.Held.{held_labels, HeldSecond, HeldSets, Outcome, join_on}
-use Rattle.frame_line.specs.Lines.{CornerLine, LabelLine, ShadeLine, PassLine}
+use Rattle.frame_line.specs.Lines.{CornerLine, LabelLine, ShadeLine}
 use Rattle.frame_line.specs.Table.{turn_at}
 use Rattle.frame_line.specs.declared.HeldLine.{HeldLine}
 use Rattle.std.specs.Prelude.{Option, None, Some}
@@ -22,7 +22,7 @@ use Rattle.frame_check.specs.declared.Held.{Held}
 use Rattle.sizes.specs.Sizes.{corner_limit, place_count, pass_size, all_pass_words}
 use Rattle.frame_state.specs.State.{patched_of, second_of, Counted, at_stage, arrays, State, state, BoxFound, adds}
 use Rattle.frame_state.specs.declared.Progress.{Progress}
-use Rattle.frame.specs.Frame.{Frame, Parts, parts_of, some_of, placed, FrameRead, refused_at, accepted}
+use Rattle.frame.specs.Frame.{Frame, RoledPass, Parts, parts_of, some_of, placed, FrameRead, refused_at, accepted}
 use Rattle.frame.specs.Text.{Sound, Apart}
 use Rattle.frame.specs.ReadFrame.{float_of, settings_in, shaded, sheet_of, all_words, Buffers}
 use Rattle.frame.specs.declared.Buffers as Lent
@@ -54,6 +54,7 @@ boxed p sheet =
       second = p.second;
       passes = p.passes;
       stage = p.stage;
+      role = p.role;
       around = box_of sheet;
     }
 
@@ -120,7 +121,7 @@ pub record HoldsShades (ss : List ShadeLine) (shades : List ℕ) : Type 0 where
   pub corners : (k : ℕ) → k < corner_limit → is_set shades k ≡ corner_shaded ss (pos k)
 
 -- the words of m passes stand at the front of an array
-pub record HoldsPasses (ps : List PassLine) (m : ℕ) (words : List ℕ) : Type 0 where
+pub record HoldsPasses (ps : List RoledPass) (m : ℕ) (words : List ℕ) : Type 0 where
   pub count : m ≡ length ps
   pub words_held : Holds all_pass_words (pass_size * m) words (all_words ps)
 
@@ -134,6 +135,7 @@ pub record FrameHeld (f : Parts) (s : State) : Type 0 where
   pub patched : patched_of s.progress ≡ f.patched
   pub second : HoldsSecond f.second (second_of s.progress) s.held.second_used s.held.second
   pub shades : HoldsShades f.shades s.held.shades
+  pub role : s.progress.role ≡ f.role
   pub passes : HoldsPasses f.passes s.progress.passes s.held.passes
   pub box : BoxFound s
 
@@ -165,7 +167,7 @@ unfoldable pub held_step : Option HeldLine → State → Went
 held_step None s = went (Err Refusal.Malformed) s
 held_step (Some line) s =
     held_by (turn_at s.progress.stage line.row)
-    (checked_held s.progress.corners s.progress.passes (patched_of s.progress) s.held (second_of s.progress) line) (adds line s) s
+    (checked_held s.progress.corners s.progress.passes s.progress.role (patched_of s.progress) s.held (second_of s.progress) line) (adds line s) s
 
 -- ---- after the last line
 

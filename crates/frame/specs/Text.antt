@@ -9,11 +9,12 @@ use Rattle.join.specs.declared.Unjoinable.{Unjoinable}
 use Rattle.line_form.specs.Forms.{bytes}
 use Rattle.line_form.specs.Lines.{lines_of}
 use Rattle.frame_line.specs.Table.{turn_at, may_end}
-use Rattle.frame_line.specs.Lines.{Line, kind_of, Proper, line_text, LabelLine, ShadeLine, LineRead, ill_formed, line, read_line}
+use Rattle.frame_line.specs.Lines.{Line, kind_of, Proper, line_text, LabelLine, ShadeLine, pass_kind, LineRead, ill_formed, line, read_line}
 use Rattle.frame_line.specs.Checks.{outside_line}
 use Rattle.std.specs.Prelude.{None, Some}
+use Rattle.frame_check.specs.Checks.{may_run}
 use Rattle.sizes.specs.Sizes.{corner_limit, pass_limit, byte_limit}
-use Rattle.frame.specs.Frame.{Frame, parts_of, first_set, second_set, outside_in, over_in, twice_in, onward, step_line, refused_at, accepted, read_frame}
+use Rattle.frame.specs.Frame.{Frame, RoledPass, parts_of, first_set, second_set, outside_in, over_in, twice_in, forbidden_in, onward, step_line, refused_at, accepted, read_frame}
 
 -- ---- printed
 
@@ -61,6 +62,10 @@ Apart ls = AllDiffer (λ l m. (l.cell ≡ m.cell → ⊥) × (l.corner ≡ m.cor
 abbrev pub ApartShades : List ShadeLine → Type 0
 ApartShades ss = AllDiffer (λ s t. s.corner ≡ t.corner → ⊥) ss
 
+-- a pass that its role may run
+abbrev pub Permitted : RoledPass → Type 0
+Permitted q = may_run q.role (pass_kind q.pass) ≡ true
+
 -- two sets that can be joined: a corner is in both, and a shift onto the sheet gives every shared corner one cell and every cell one corner
 pub record Joinable (first second : List Placed) : Type 0 where
   pub shared : Shared first second
@@ -68,7 +73,8 @@ pub record Joinable (first second : List Placed) : Type 0 where
   pub onto : Shift first second shift
 
 -- a frame that 01 and 02 allow: "At most 65,536 bytes, 1,024 corners, 16 passes", its lines in order, every number in its range, labels on the
--- sheet, labels and shades of given corners, no cell or corner labelled twice in either set, no corner shaded twice, two sets that can be joined
+-- sheet, labels and shades of given corners, no cell or corner labelled twice in either set, no corner shaded twice, each pass run by a role that may,
+-- two sets that can be joined
 pub record WithinLimits (f : Frame) : Type 0 where
   pub bytes : length (frame_text f) ≤ byte_limit
   pub order : InOrder 0 f
@@ -78,6 +84,7 @@ pub record WithinLimits (f : Frame) : Type 0 where
   pub once : Apart (parts_of f).labels
   pub second_once : Apart (parts_of f).second
   pub shaded_once : ApartShades (parts_of f).shades
+  pub permitted : All Permitted (parts_of f).passes
   pub joins : (parts_of f).patched ≡ true → Joinable (first_set (parts_of f)) (second_set (parts_of f))
 
 -- ---- the laws
@@ -103,21 +110,25 @@ ShadesSound = (f : Frame) → WithinLimits f → All (SoundShade (length (parts_
 -- ---- what a refusal means
 
 -- the first check that fails on a line in its turn: `outside r`, some number of it has the refusal r; `over`, a limit is passed; `twice`, it is
--- doubled
-pub data FirstCheck (outside : ℕ → Bool) (over twice : Bool) : Refusal → Type 0 where
-  is_first : outside 1 ≡ true → FirstCheck outside over twice Refusal.Malformed
-  too_many : outside 1 ≡ false → over ≡ true → FirstCheck outside over twice Refusal.OverLimit
-  is_wild : outside 1 ≡ false → over ≡ false → outside 3 ≡ true → FirstCheck outside over twice Refusal.OutOfRange
-  is_off_sheet : outside 1 ≡ false → over ≡ false → outside 3 ≡ false → outside 4 ≡ true → FirstCheck outside over twice Refusal.OffSheet
-  is_unknown : outside 1 ≡ false → over ≡ false → outside 3 ≡ false → outside 4 ≡ false → outside 5 ≡ true → FirstCheck outside over twice Refusal.UnknownCorner
-  is_doubled : outside 1 ≡ false → over ≡ false → outside 3 ≡ false → outside 4 ≡ false → outside 5 ≡ false → twice ≡ true → FirstCheck outside over twice Refusal.Duplicate
+-- doubled; `forbidden`, its role may not run it
+pub data FirstCheck (outside : ℕ → Bool) (over twice forbidden : Bool) : Refusal → Type 0 where
+  is_first : outside 1 ≡ true → FirstCheck outside over twice forbidden Refusal.Malformed
+  too_many : outside 1 ≡ false → over ≡ true → FirstCheck outside over twice forbidden Refusal.OverLimit
+  is_wild : outside 1 ≡ false → over ≡ false → outside 3 ≡ true → FirstCheck outside over twice forbidden Refusal.OutOfRange
+  is_off_sheet : outside 1 ≡ false → over ≡ false → outside 3 ≡ false → outside 4 ≡ true → FirstCheck outside over twice forbidden Refusal.OffSheet
+  is_unknown : outside 1 ≡ false → over ≡ false → outside 3 ≡ false → outside 4 ≡ false → outside 5 ≡ true → FirstCheck outside over twice forbidden Refusal.UnknownCorner
+  is_doubled : outside 1 ≡ false → over ≡ false → outside 3 ≡ false → outside 4 ≡ false → outside 5 ≡ false → twice ≡ true
+      → FirstCheck outside over twice forbidden Refusal.Duplicate
+  is_not_permitted : outside 1 ≡ false → over ≡ false → outside 3 ≡ false → outside 4 ≡ false → outside 5 ≡ false → twice ≡ false → forbidden ≡ true
+      → FirstCheck outside over twice forbidden Refusal.NotPermitted
 
--- the first check that fails on a line, in order 1 to 6; a line that has no form, or is not in its turn, fails the first
+-- the first check that fails on a line, in order 1 to 6, then 10; a line that has no form, or is not in its turn, fails the first
 pub data FirstFault (stage : ℕ) (f : Frame) : LineRead → Refusal → Type 0 where
   has_no_form : FirstFault stage f ill_formed Refusal.Malformed
   not_its_turn : {l : Line} → turn_at stage l.row ≡ None → FirstFault stage f (line l) Refusal.Malformed
   fails : {l : Line} {to : ℕ} {r : Refusal} → turn_at stage l.row ≡ Some to
-      → FirstCheck (outside_in (parts_of f) l) (over_in (parts_of f) (kind_of l)) (twice_in (parts_of f) (kind_of l) l.numbers) r
+      → FirstCheck (outside_in (parts_of f) l) (over_in (parts_of f) (kind_of l)) (twice_in (parts_of f) (kind_of l) l.numbers)
+      (forbidden_in (parts_of f) (kind_of l)) r
       → FirstFault stage f (line l) r
 
 -- lines that all pass their checks, one after the other, from a stage and a frame to another
@@ -134,8 +145,8 @@ pub data Unjoined (first second : List Placed) : Refusal → Type 0 where
   goes_off : Meaning first second (Err Unjoinable.Off) → Unjoined first second Refusal.OffSheet
 
 -- Why a text is refused at a line: too many bytes, line 0; or the lines before it pass and it fails, that number being the first check that
--- fails on it; or all lines pass, and one of the first four is missing after the last; or all lines pass and the text may end there, this line is the
--- patch line, and the two sets are not joined.
+-- fails on it; or all lines pass, and after the last one of the first four is missing, or the pass behind an as line; or all lines pass and the text
+-- may end there, this line is the patch line, and the two sets are not joined.
 pub data Refused (text : List ℕ) : Refusal → ℕ → Type 0 where
   too_long : byte_limit < length text → Refused text Refusal.OverLimit 0
   at_line : (n stage : ℕ) (f : Frame) (r : Refusal) → length text ≤ byte_limit → n < length (lines_of text) → Passed 0 [] (take n (lines_of text)) stage f

@@ -1,6 +1,6 @@
-// A frame read from a text (01, "Frame and result"): lines from the top, each checked in order 1 to 6 and then added to what the lines before
-// it said; after the last the labels of two patches are joined (02, 3/14). Until the whole frame is accepted it is held in arrays of the
-// reader's own, so that a refused one has written nothing.
+// A frame read from a text (01, "Frame and result"): lines from the top, each checked in order 1 to 6, then 10, and then added to what
+// the lines before it said; after the last the labels of two patches are joined (02, 3/14). Until the whole frame is accepted it is held in arrays of
+// the reader's own, so that a refused one has written nothing.
 
 #![tactic(auto)]
 
@@ -181,7 +181,7 @@ fn read_text(text: &[u8], buffers: &mut Buffers) -> Result<FrameHead, FrameRefus
 
 // Reads a frame. An accepted one is written to the buffers: its corners to the front of the first three, their shades to the front of the fourth,
 // a byte each (0 none, 1 kind 0, 2 kind 1), the sheet of its given labels, joined where there are two sets, to the first 16,384 places of the
-// fifth, and its passes, six words each, to the front of the last; the rest of them stays. A refused one writes nothing, and the answer has the
+// fifth, and its passes, seven words each, to the front of the last; the rest of them stays. A refused one writes nothing, and the answer has the
 // refusal and the line, 0 where it is about no line. `said` is the same answer in 01's number with the line, or values.
 // Stays: each buffer is lent by itself, as the C interface lends it (a).
 #[tactic(auto, using(crate::proofs::Leaving::long_enough, crate::proofs::Leaving::due_said), unfolding(crate::specs::ReadFrame::read_into, crate::specs::Frame::read_frame))]

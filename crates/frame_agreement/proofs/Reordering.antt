@@ -17,7 +17,7 @@ use Rattle.agreement.proofs.Run.{agreement}
 use Rattle.join.specs.Rule.{Placed, All, renamed}
 use Rattle.join.specs.Sheets.{labelled, Holdable}
 use Rattle.frame_line.specs.Lines.{CornerLine, PassLine}
-use Rattle.frame.specs.Frame.{Frame, parts_of, given_of}
+use Rattle.frame.specs.Frame.{Frame, RoledPass, parts_of, given_of}
 use Rattle.frame.specs.Text.{WithinLimits}
 use Rattle.frame.specs.ReadFrame.{float_of, xs_of, ys_of, pitches_of, shades_of, sheet_of, settings_in, settings_of}
 use Rattle.frame_laws.specs.Calls.{frame_corners, call_of, calls_of}
@@ -129,11 +129,12 @@ module _ (f f' : Frame) (w : WithinLimits f) (same : SameButOrder f f') where
   calls_relisted : Relisted pairs (calls_of f) (calls_of f')
   unfolding calls_of
   calls_relisted =
-      subst (λ (ps : List PassLine). Relisted pairs (map (call_of f) (parts_of f).passes) (map (call_of f') ps)) (sym same.passes) (each (parts_of f).passes)
+      subst (λ (qs : List RoledPass). Relisted pairs (map (λ q. call_of f q.pass) (parts_of f).passes) (map (λ q. call_of f' q.pass) qs)) (sym same.passes)
+      (each (parts_of f).passes)
     where
-      each : (ps : List PassLine) → Relisted pairs (map (call_of f) ps) (map (call_of f') ps)
+      each : (qs : List RoledPass) → Relisted pairs (map (λ q. call_of f q.pass) qs) (map (λ q. call_of f' q.pass) qs)
       each [] = no_call
-      each (p ∷ ps) = relisted (call_relisted p) (each ps)
+      each (q ∷ qs) = relisted (call_relisted q.pass) (each qs)
 
   -- ---- the claim
 

@@ -15,6 +15,7 @@ use lib.Seq.{get_or-append-add, get_or-take, length-take-le}
 use lib.Ieee.{binary32, of_bits}
 use lib.Ieee.Bits.{of_bits-to_bits}
 use Rattle.refusal.specs.declared.Refusal.{Refusal}
+use Rattle.roles.specs.declared.Role.{Role}
 use Rattle.binary32.specs.Ranges.{is_finite}
 use Rattle.arguments.specs.Arguments.{Checked}
 use Rattle.arguments.proofs.Laws.{not_unknown, not_doubled}
@@ -26,8 +27,7 @@ use Rattle.passes.specs.Run.{as_left, Call, step, sheet_after, run, sheet_of as 
 use Rattle.passes.specs.declared.PassStats.{PassStats}
 use Rattle.invariants.specs.Calls.{Standing, checked_call, after_call}
 use Rattle.invariants.proofs.Run.{step_as_lem, call_accepted, standing_after_lem}
-use Rattle.frame_line.specs.Lines.{PassLine}
-use Rattle.frame.specs.Frame.{Frame, parts_of, read_frame, accepted}
+use Rattle.frame.specs.Frame.{Frame, RoledPass, parts_of, read_frame, accepted}
 use Rattle.frame.specs.Text.{WithinLimits}
 use Rattle.frame.specs.ReadFrame.{float_of, xs_of, shades_of, sheet_of, settings_of, FullPass, full_grow, full_fill, full_local, full_of, pass_of, words_of, all_words}
 use Rattle.pass_call.specs.Call.{call_of}
@@ -47,32 +47,32 @@ use Rattle.frame_answer.specs.Answer.{stats_of, frame_stats, frame_sheet, Record
 use Rattle.arguments.proofs.Chains.{or_false}
 use Rattle.arguments.specs.Arguments.{Checked}
 
--- ---- a pass from its six words
+-- ---- a pass from its seven words
 
 -- what stands behind n words
 behind : (before after : List ℕ) (n m : ℕ) → length before ≡ n → get_or (before ++ after) (n + m) 0 ≡ get_or after m 0
 behind before after n m e = rw (← e) (get_or-append-add before after m 0)
 
-pass_read : (before after : List ℕ) (k : ℕ) (p : FullPass) → length before ≡ 6 * k → pass_at (before ++ (words_of p ++ after)) k ≡ pass_of p
+pass_read : (before after : List ℕ) (k : ℕ) (r : Role) (p : FullPass) → length before ≡ 7 * k → pass_at (before ++ (words_of r p ++ after)) k ≡ pass_of p
 unfolding pass_at words_of pass_of
-pass_read before after k (full_grow s f b) e = rw (at 0, at 1, at 2, at 3) refl
+pass_read before after k r (full_grow s f b) e = rw (at 0, at 1, at 2, at 3) refl
   where
-    at : (m : ℕ) → get_or (before ++ (words_of (full_grow s f b) ++ after)) (6 * k + m) 0 ≡ get_or (words_of (full_grow s f b) ++ after) m 0
-    at m = behind before (words_of (full_grow s f b) ++ after) (6 * k) m e
-pass_read before after k (full_fill s f r) e = rw (at 0, at 1, at 2, at 4) refl
+    at : (m : ℕ) → get_or (before ++ (words_of r (full_grow s f b) ++ after)) (7 * k + m) 0 ≡ get_or (words_of r (full_grow s f b) ++ after) m 0
+    at m = behind before (words_of r (full_grow s f b) ++ after) (7 * k) m e
+pass_read before after k r (full_fill s f n) e = rw (at 0, at 1, at 2, at 4) refl
   where
-    at : (m : ℕ) → get_or (before ++ (words_of (full_fill s f r) ++ after)) (6 * k + m) 0 ≡ get_or (words_of (full_fill s f r) ++ after) m 0
-    at m = behind before (words_of (full_fill s f r) ++ after) (6 * k) m e
-pass_read before after k (full_local s f r g d) e = rw (at 0, at 1, at 2, at 3, at 4, at 5) refl
+    at : (m : ℕ) → get_or (before ++ (words_of r (full_fill s f n) ++ after)) (7 * k + m) 0 ≡ get_or (words_of r (full_fill s f n) ++ after) m 0
+    at m = behind before (words_of r (full_fill s f n) ++ after) (7 * k) m e
+pass_read before after k r (full_local s f n g d) e = rw (at 0, at 1, at 2, at 3, at 4, at 5) refl
   where
-    at : (m : ℕ) → get_or (before ++ (words_of (full_local s f r g d) ++ after)) (6 * k + m) 0 ≡ get_or (words_of (full_local s f r g d) ++ after) m 0
-    at m = behind before (words_of (full_local s f r g d) ++ after) (6 * k) m e
+    at : (m : ℕ) → get_or (before ++ (words_of r (full_local s f n g d) ++ after)) (7 * k + m) 0 ≡ get_or (words_of r (full_local s f n g d) ++ after) m 0
+    at m = behind before (words_of r (full_local s f n g d) ++ after) (7 * k) m e
 
-six_words : (p : FullPass) → length (words_of p) ≡ 6
+seven_words : (r : Role) (p : FullPass) → length (words_of r p) ≡ 7
 unfolding words_of
-six_words (full_grow s f b) = refl
-six_words (full_fill s f r) = refl
-six_words (full_local s f r g d) = refl
+seven_words r (full_grow s f b) = refl
+seven_words r (full_fill s f n) = refl
+seven_words r (full_local s f n g d) = refl
 
 -- ---- calls of a list, the first of them number k
 
@@ -81,31 +81,39 @@ left_by_list l [] k s = s
 left_by_list l (c ∷ cs) k s = left_by_list l cs (suc k) (left_by l c k s)
 
 module _ (f : Frame) (rest : List ℕ) where
-  call_read : (before after : List ℕ) (k : ℕ) (p : PassLine) → length before ≡ 6 * k → call_at (settings_of f) (shades_of f) 4096 1024 (before ++ (words_of (full_of p) ++ after)) k ≡ frameCall f p
-  call_read before after k p e = ap (call_of (settings_of f) (shades_of f) as_left 4096 1024) (pass_read before after k (full_of p) e)
+  -- the words of a pass of the frame, and its call, which knows no role
+  abbrev words_said : RoledPass → List ℕ
+  words_said q = words_of q.role (full_of q.pass)
+
+  abbrev called : RoledPass → Call
+  called q = frameCall f q.pass
+
+  call_read : (before after : List ℕ) (k : ℕ) (q : RoledPass) → length before ≡ 7 * k
+      → call_at (settings_of f) (shades_of f) 4096 1024 (before ++ (words_said q ++ after)) k ≡ called q
+  call_read before after k q e = ap (call_of (settings_of f) (shades_of f) as_left 4096 1024) (pass_read before after k q.role (full_of q.pass) e)
 
   -- the passes that are read from their words are those of the frame
-  by_list : (before words : List ℕ) (ps : List PassLine) (k : ℕ) (s : Left) → length before ≡ 6 * k → words ≡ before ++ (all_words ps ++ rest)
-      → left_by_all (frame_corners f) (call_at (settings_of f) (shades_of f) 4096 1024 words) (length ps) k s ≡ left_by_list (frame_corners f) (map (frameCall f) ps) k s
+  by_list : (before words : List ℕ) (ps : List RoledPass) (k : ℕ) (s : Left) → length before ≡ 7 * k → words ≡ before ++ (all_words ps ++ rest)
+      → left_by_all (frame_corners f) (call_at (settings_of f) (shades_of f) 4096 1024 words) (length ps) k s ≡ left_by_list (frame_corners f) (map called ps) k s
   unfolding left_by_all left_by_list all_words
   by_list before words [] k s e w = refl
   by_list before words (p ∷ ps) k s e w =
-      by_list (before ++ words_of (full_of p)) words ps (suc k) _ longer again
-      ∙ ap (λ (c : Call). left_by_list (frame_corners f) (map (frameCall f) ps) (suc k) (left_by (frame_corners f) c k s)) now
+      by_list (before ++ words_said p) words ps (suc k) _ longer again
+      ∙ ap (λ (c : Call). left_by_list (frame_corners f) (map called ps) (suc k) (left_by (frame_corners f) c k s)) now
     where
-      split : (words_of (full_of p) ++ all_words ps) ++ rest ≡ words_of (full_of p) ++ (all_words ps ++ rest)
-      split = append_assoc (words_of (full_of p)) (all_words ps) rest
+      split : (words_said p ++ all_words ps) ++ rest ≡ words_said p ++ (all_words ps ++ rest)
+      split = append_assoc (words_said p) (all_words ps) rest
 
-      so : words ≡ before ++ (words_of (full_of p) ++ (all_words ps ++ rest))
+      so : words ≡ before ++ (words_said p ++ (all_words ps ++ rest))
       so = w ∙ ap (λ (r : List ℕ). before ++ r) split
 
-      again : words ≡ (before ++ words_of (full_of p)) ++ (all_words ps ++ rest)
-      again = so ∙ sym (append_assoc before (words_of (full_of p)) (all_words ps ++ rest))
+      again : words ≡ (before ++ words_said p) ++ (all_words ps ++ rest)
+      again = so ∙ sym (append_assoc before (words_said p) (all_words ps ++ rest))
 
-      longer : length (before ++ words_of (full_of p)) ≡ 6 * suc k
-      longer = let six = six_words (full_of p) in rw length-append (omega (arith, e, six))
+      longer : length (before ++ words_said p) ≡ 7 * suc k
+      longer = let seven = seven_words p.role (full_of p.pass) in rw length-append (omega (arith, e, seven))
 
-      now : call_at (settings_of f) (shades_of f) 4096 1024 words k ≡ frameCall f p
+      now : call_at (settings_of f) (shades_of f) 4096 1024 words k ≡ called p
       now = ap (λ (r : List ℕ). call_at (settings_of f) (shades_of f) 4096 1024 r k) so ∙ call_read before (all_words ps ++ rest) k p e
 
 -- ---- the words of an outcome
@@ -338,7 +346,7 @@ module _ (f : Frame) (w : WithinLimits f) (stands : Standing (frame_corners f) (
 
   as_many_calls : length (calls_of f) ≡ length (parts_of f).passes
   unfolding calls_of
-  as_many_calls = length-map (parts_of f).passes (frameCall f)
+  as_many_calls = length-map (parts_of f).passes (λ q. frameCall f q.pass)
 
   as_list : (passes₀ words₀ : List ℕ) → ran_of f passes₀ words₀ ≡ left_by_list (frame_corners f) (calls_of f) 0 (left (sheet_of f) words₀)
   unfolding calls_of
@@ -375,7 +383,7 @@ module _ (f : Frame) (w : WithinLimits f) (stands : Standing (frame_corners f) (
       subst (λ (e : Left). Recorded f (length (parts_of f).corners) (length (parts_of f).passes) e.sheet e.words) (sym (as_list passes₀ words₀))
       (record_so words₀ long _ (said (frame_corners f) (calls_of f) 0 (sheet_of f) words₀ runs (omega (arith, as_many_calls, w.passes, long)) (λ i h. absurd (not-suc-le-zero h))))
 
-pub recorded : (text : List ℕ) (f : Frame) → read_frame text ≡ accepted f → (passes₀ words₀ : List ℕ) → 96 ≤ length passes₀ → 176 ≤ length words₀
+pub recorded : (text : List ℕ) (f : Frame) → read_frame text ≡ accepted f → (passes₀ words₀ : List ℕ) → 112 ≤ length passes₀ → 176 ≤ length words₀
     → Recorded f (length (parts_of f).corners) (length (parts_of f).passes) (ran_of f passes₀ words₀).sheet (ran_of f passes₀ words₀).words
 recorded text f e passes₀ words₀ six nine =
     let s = accepted_runs text f e in

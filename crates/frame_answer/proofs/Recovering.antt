@@ -8,10 +8,11 @@ use borrow.Author.Tests.{le-ltb}
 use lib.ListN.{length, take, set, length-append, length-drop, length-map, drop_of_length-le}
 use lib.Ieee.{Float}
 use Rattle.arguments.specs.declared.Settings.{Settings}
-use Rattle.frame.specs.Frame.{Frame, parts_of, given_of, FrameRead, refused_at, accepted, read_frame}
+use Rattle.roles.specs.declared.Role.{Role}
+use Rattle.frame.specs.Frame.{Frame, RoledPass, parts_of, given_of, FrameRead, refused_at, accepted, read_frame}
 use Rattle.frame.specs.Text.{WithinLimits}
 use Rattle.frame.specs.ReadFrame.{float_of, xs_of, ys_of, pitches_of, shades_of, sheet_of, settings_of, FullPass, full_grow, full_fill, full_local, full_of, words_of, all_words, Buffers, FrameOut, frame_out, too_short, leaves, unless_short, read_into}
-use Rattle.frame_line.specs.Lines.{CornerLine, PassLine}
+use Rattle.frame_line.specs.Lines.{CornerLine}
 use Rattle.labels.specs.Kept.{box_kept}
 use Rattle.sheet.specs.Corners.{CornerLists, corner_lists}
 use Rattle.sheet.specs.Words.{empty_sheet}
@@ -45,16 +46,17 @@ front f l buffer = rw (sym (length-map l f)) (take_over (map f l) buffer)
 over_whole : (written buffer : List ℕ) → length written ≡ length buffer → over written buffer ≡ written
 over_whole written buffer e = let h : length buffer ≤ length written = omega arith in rw (drop_of_length-le buffer h) (append-nil written)
 
--- each pass has six words
-words_length : (ps : List PassLine) → length (all_words ps) ≡ 6 * length ps
+-- each pass has seven words
+words_length : (ps : List RoledPass) → length (all_words ps) ≡ 7 * length ps
 unfolding all_words words_of
 words_length [] = refl
-words_length (p ∷ ps) = length-append (words_of (full_of p)) (all_words ps) ∙ omega (arith, six (full_of p), words_length ps)
+words_length (p ∷ ps) =
+    length-append (words_of p.role (full_of p.pass)) (all_words ps) ∙ omega (arith, seven p.role (full_of p.pass), words_length ps)
   where
-    six : (q : FullPass) → length (words_of q) ≡ 6
-    six (full_grow s f b) = refl
-    six (full_fill s f r) = refl
-    six (full_local s f r g d) = refl
+    seven : (r : Role) (q : FullPass) → length (words_of r q) ≡ 7
+    seven r (full_grow s f b) = refl
+    seven r (full_fill s f n) = refl
+    seven r (full_local s f n g d) = refl
 
 -- the sheet of the given labels has 16,384 places
 sheet_length : (f : Frame) → length (sheet_of f) ≡ 16384
@@ -73,7 +75,7 @@ module _ (text : List ℕ) (xs ys pitches : List Float) (shades sheet passes : L
         le-ltb (length pitches) 1024 room.pitches_long,
         le-ltb (length shades) 1024 room.shades_long,
         le-ltb (length sheet) 16384 (omega (arith, room.sheet_whole)),
-        le-ltb (length passes) 96 room.passes_long,
+        le-ltb (length passes) 112 room.passes_long,
       ) refl
 
   into : read_into text lent ≡ leaves (read_frame text) lent

@@ -31,38 +31,42 @@ passed true r rest e = absurd (let z : ◌≡◌ {A = ℕ} 0 1 = cc in omega ari
 passed false r rest e = refl
 
 -- what all checks found of a line that is fine
-pub record AllFine (outside : ℕ → Bool) (over twice : Bool) : Type 0 where
+pub record AllFine (outside : ℕ → Bool) (over twice forbidden : Bool) : Type 0 where
   pub first : outside 1 ≡ false
   pub room : over ≡ false
   pub ranges : outside 3 ≡ false
   pub on : outside 4 ≡ false
   pub known : outside 5 ≡ false
   pub once : twice ≡ false
+  pub permitted : forbidden ≡ false
 
-pub fine_all : (outside : ℕ → Bool) (over twice : Bool) → checks_in_order outside over twice ≡ Ok tt → AllFine outside over twice
+pub fine_all : (outside : ℕ → Bool) (over twice forbidden : Bool) → checks_in_order outside over twice forbidden ≡ Ok tt
+    → AllFine outside over twice forbidden
 unfolding checks_in_order
-fine_all outside over twice e =
+fine_all outside over twice forbidden e =
     let a = not_refused (outside 1) Refusal.Malformed _ e in
     let b = not_refused over Refusal.OverLimit _ a.1 in
     let c = not_refused (outside 3) Refusal.OutOfRange _ b.1 in
     let d = not_refused (outside 4) Refusal.OffSheet _ c.1 in
     let g = not_refused (outside 5) Refusal.UnknownCorner _ d.1 in
     let h = not_refused twice Refusal.Duplicate _ g.1 in
-    record { first = a.0; room = b.0; ranges = c.0; on = d.0; known = g.0; once = h.0 }
+    let i = not_refused forbidden Refusal.NotPermitted _ h.1 in
+    record { first = a.0; room = b.0; ranges = c.0; on = d.0; known = g.0; once = h.0; permitted = i.0 }
 
-pub all_fine : (outside : ℕ → Bool) (over twice : Bool) → AllFine outside over twice → checks_in_order outside over twice ≡ Ok tt
+pub all_fine : (outside : ℕ → Bool) (over twice forbidden : Bool) → AllFine outside over twice forbidden
+    → checks_in_order outside over twice forbidden ≡ Ok tt
 unfolding checks_in_order
-all_fine outside over twice f = rw (f.first, f.room, f.ranges, f.on, f.known, f.once)
+all_fine outside over twice forbidden f = rw (f.first, f.room, f.ranges, f.on, f.known, f.once, f.permitted)
 
 refused_alike : (b b' : Bool) (r : Refusal) (x y : Checked) → b ≡ b' → (b' ≡ false → x ≡ y) → refused_if b r x ≡ refused_if b' r y
 refused_alike b true r x y e f = rw e
 refused_alike b false r x y e f = rw e (f refl)
 
 -- doubled is asked only of a label on the sheet, and of a corner that is given
-pub checks_alike : (f g : ℕ → Bool) (over twice twice' : Bool) → ((r : ℕ) → f r ≡ g r) → (g 4 ≡ false → g 5 ≡ false → twice ≡ twice')
-    → checks_in_order f over twice ≡ checks_in_order g over twice'
+pub checks_alike : (f g : ℕ → Bool) (over twice twice' forbidden : Bool) → ((r : ℕ) → f r ≡ g r) → (g 4 ≡ false → g 5 ≡ false → twice ≡ twice')
+    → checks_in_order f over twice forbidden ≡ checks_in_order g over twice' forbidden
 unfolding checks_in_order
-checks_alike f g over twice twice' e t =
+checks_alike f g over twice twice' forbidden e t =
     refused_alike (f 1) (g 1) Refusal.Malformed _ _ (e 1)
     (λ a.
     refused_alike over over Refusal.OverLimit _ _ refl
@@ -72,7 +76,7 @@ checks_alike f g over twice twice' e t =
     refused_alike (f 4) (g 4) Refusal.OffSheet _ _ (e 4)
     (λ on.
     refused_alike (f 5) (g 5) Refusal.UnknownCorner _ _ (e 5)
-    (λ known. ap (λ (x : Bool). refused_if x Refusal.Duplicate (Ok tt)) (t on known))))))
+    (λ known. ap (λ (x : Bool). refused_if x Refusal.Duplicate (refused_if forbidden Refusal.NotPermitted (Ok tt))) (t on known))))))
 
 -- ---- a place among those of the second set
 

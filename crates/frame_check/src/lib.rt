@@ -1,4 +1,5 @@
-// The checks of a frame's line (01, the table of refusals): "each in order 1 to 6". That it is a line's turn is told before (crate frame_line).
+// The checks of a frame's line (01, the table of refusals): "each in order 1 to 6", and then 10 of 02, 6/14. That it is a line's turn is told before
+// (crate frame_line).
 
 #![tactic(auto)]
 
@@ -6,11 +7,12 @@ ghost use Rattle.std.specs.Prelude.{◌≡◌, ◌<◌, ◌≤◌, take, Ok, is_
 ghost use Rattle.std.specs.List.{list_any};
 ghost use Rattle.sizes.specs.Sizes.{corner_limit};
 ghost use Rattle.arguments.specs.Arguments.{refused_if};
-ghost use Rattle.frame_check.specs.Checks.{nothing_held, over_limit, has_place, label_twice, shade_twice, twice_held, checked_held, LabelFits, NumbersFine};
+ghost use Rattle.frame_check.specs.Checks.{nothing_held, over_limit, may_run, forbidden, has_place, label_twice, shade_twice, twice_held, checked_held, LabelFits, NumbersFine};
 
-use frame_line::{HeldLabel, HeldShade, Kind, ListedLine};
+use frame_line::{HeldLabel, HeldShade, Kind, ListedLine, PassKind};
 use join_sheet::SecondLabel;
 use refusal::Refusal;
+use roles::Role;
 use sizes::{ALL_PASS_WORDS, CORNERS, PASSES, PLACES};
 
 // Refuses what holds.
@@ -18,6 +20,18 @@ fn refuse_if(holds: bool, refusal: Refusal) -> Result<(), Refusal>
     ensures { result ≡ refused_if holds refusal (Ok tt) }
 {
     if holds { Err(refusal) } else { Ok(()) }
+}
+
+// Whether a role may run a pass: a dealer the bare ones, a depot any grow and fill, the plant all.
+#[tactic(auto, unfolding(crate::specs::Checks::may_run))]
+fn may_run(role: Role, pass: PassKind) -> bool
+    ensures { result ≡ may_run role pass }
+{
+    match role {
+        Role::Plant => true,
+        Role::Depot => !matches!(pass, PassKind::Local),
+        Role::Dealer => matches!(pass, PassKind::BareGrow | PassKind::BareFill),
+    }
 }
 
 // The arrays in which a frame's lines are held: positions, pitches and shades (0 where none stands) of the corners, the labels of the first set as a
@@ -58,15 +72,16 @@ impl Held {
     }
 }
 
-// What the lines before said that a line is checked against: the arrays that hold it, how many corners and passes there are, and how many labels of
-// the second set, None where no patch line stands.
-// Stays: `Progress` stands in a crate above this one; a check reads these three numbers of it, and five of the arrays of `Held` (d).
+// What the lines before said that a line is checked against: the arrays that hold it, how many corners and passes there are, how many labels of
+// the second set, None where no patch line stands, and the role that holds.
+// Stays: `Progress` stands in a crate above this one; a check reads these three numbers of it with the role, and five of the arrays of `Held` (d).
 #[derive(Clone, Copy)]
 pub struct Said<'a> {
     pub held: &'a Held,
     pub corners: usize,
     pub passes: usize,
     pub labels: Option<usize>,
+    pub role: Role,
     pub ghost few: { corners ≤ corner_limit },
     pub ghost labels_few: { unwrap_or labels 0 ≤ corner_limit },
 }
@@ -80,7 +95,7 @@ impl<'a> Said<'a> {
         match kind {
             Kind::Corner => CORNERS <= self.corners,
             Kind::Pass(_) => PASSES <= self.passes,
-            Kind::Opening(_) | Kind::Label | Kind::Patch | Kind::Shade => false,
+            Kind::Opening(_) | Kind::Label | Kind::Patch | Kind::Shade | Kind::As(_) => false,
         }
     }
 
@@ -126,13 +141,29 @@ impl<'a> Said<'a> {
         match line.kind() {
             Kind::Label => self.label_twice(frame_number::label_of(v)),
             Kind::Shade => self.shade_twice(frame_number::shade_of(v)),
-            Kind::Opening(_) | Kind::Corner | Kind::Patch | Kind::Pass(_) => false,
+            Kind::Opening(_) | Kind::Corner | Kind::Patch | Kind::As(_) | Kind::Pass(_) => false,
+        }
+    }
+
+    // 10: whether it is a pass that the role may not run.
+    #[tactic(auto, unfolding(crate::specs::Checks::forbidden))]
+    fn is_forbidden(&self, kind: Kind) -> bool
+        ensures { result ≡ forbidden self.now.role kind }
+    {
+        match kind {
+            Kind::Pass(pass) => !may_run(self.role, pass),
+            Kind::Opening(_)
+            | Kind::Corner
+            | Kind::Label
+            | Kind::Patch
+            | Kind::Shade
+            | Kind::As(_) => false,
         }
     }
 
     // All checks of a line in its turn, in order.
     pub fn check_line(&self, line: ListedLine) -> Result<(), Refusal>
-        ensures { result ≡ checked_held self.now.corners self.now.passes (is_some self.now.labels) self.now.held.now (unwrap_or self.now.labels 0) line.held }
+        ensures { result ≡ checked_held self.now.corners self.now.passes self.now.role (is_some self.now.labels) self.now.held.now (unwrap_or self.now.labels 0) line.held }
     {
         let found = frame_number::refusals_of(self.corners as u32, line);
         refuse_if(found.malformed, Refusal::Malformed)?;
@@ -140,6 +171,7 @@ impl<'a> Said<'a> {
         refuse_if(found.out_of_range, Refusal::OutOfRange)?;
         refuse_if(found.off_sheet, Refusal::OffSheet)?;
         refuse_if(found.unknown_corner, Refusal::UnknownCorner)?;
-        refuse_if(self.is_twice(line), Refusal::Duplicate)
+        refuse_if(self.is_twice(line), Refusal::Duplicate)?;
+        refuse_if(self.is_forbidden(line.kind()), Refusal::NotPermitted)
     }
 }

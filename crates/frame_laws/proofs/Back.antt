@@ -132,7 +132,7 @@ pub limits_of : {stage : ℕ} {p : Parts} {ls : List Line} → Passing stage p l
 unfolding parts_from
 limits_of (end_here e) m = m
 limits_of {stage} {p} (pass_on l proper t c more) m =
-    let f = line_fine p l c in limits_of more (limits_after (kind_of l) l.numbers p (record { room = f.room; once = f.once }) m)
+    let f = line_fine p l c in limits_of more (limits_after (kind_of l) l.numbers p (record { room = f.room; once = f.once; permitted = f.permitted }) m)
 
 -- ---- the laws
 
@@ -170,7 +170,7 @@ within_passes s p ls (next {to = t} {ls = rest} l e o) r m =
     let all = counted_all s t p l rest e (all_map (λ k x. x.proper.few) (l ∷ rest) r) o in
     let fits = (limits_before (kind_of l) l.numbers p (limits_first (added p l) rest m)).1 in
     pass_on l r.0.proper e
-    (all_fine (outside_in p l) _ _
+    (all_fine (outside_in p l) _ _ _
     (record {
       first = all 1 ∙ r.0.first;
       room = fits.room;
@@ -178,6 +178,7 @@ within_passes s p ls (next {to = t} {ls = rest} l e o) r m =
       on = all 4 ∙ r.0.on_sheet_holds;
       known = all 5 ∙ r.0.known;
       once = fits.once;
+      permitted = fits.permitted;
     })) (within_passes t (added p l) rest o r.1 m)
 
 pub frame_reads_back : FrameReadsBack

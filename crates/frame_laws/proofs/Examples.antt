@@ -1,5 +1,5 @@
--- Frames read by the definition: 01's own example, which printing gives back, one with shades, one with two patches, and texts that are refused. One
--- theorem for the table.
+-- Frames read by the definition: 01's own example, which printing gives back, one with shades, one with two patches, one with as lines, and texts that
+-- are refused. One theorem for the table.
 use mathlib.Core.Path.{◌≡◌, refl}
 use mathlib.Core.List.{List, [], ◌∷◌, ◌++◌, map}
 use Prim.Native.Nat.{ℕ}
@@ -18,7 +18,7 @@ use Rattle.line_form.specs.Written.{unheld_whole}
 use Rattle.frame_line.specs.Table.{rows, row_at, kind_at, form_at, turn_at, may_end, sort_of, sort_at}
 use Rattle.frame_line.specs.Lines.{Line, line_text, bits_at, whole_at, pass_line_of, first_fit, read_line}
 use Rattle.frame_line.specs.Checks.{wild_bits, number_outside, some_outside, outside_line}
-use Rattle.frame_check.specs.Checks.{checks_in_order, over_limit, twice_of}
+use Rattle.frame_check.specs.Checks.{checks_in_order, over_limit, twice_of, may_run, forbidden}
 use Rattle.frame.specs.Frame.{Frame, opened, adding, parts_from, parts_of, some_of, checked_line, FrameRead, refused_at, accepted, join_of, finish, step_line, at_end, read_lines, read_frame}
 use Rattle.frame.specs.Text.{frame_text}
 
@@ -91,8 +91,40 @@ patched_meant =
     ∷ said 6 []
     ∷ []
 
+-- the plant's before the first as line, then the dealer's, the depot's, and the plant's again
+abbrev pub roled_example : List ℕ
+roled_example =
+    first_four
+    ++ bytes "(local 3f000000 3fc00000 1 3f000000 1)\n(as dealer)\n(grow)\n(fill)\n(as depot)\n(fill 3f000000 3fc00000 2)\n(as plant)\n(grow)\n"
+
+abbrev pub roled_meant : Frame
+roled_meant =
+    said 0 []
+    ∷ said 1 (bits 0x4120_0000 ∷ [])
+    ∷ said 2 (bits 0x3f80_0000 ∷ bits 0 ∷ bits 0 ∷ bits 0x3f80_0000 ∷ [])
+    ∷ said 3 (bits 0x3e80_0000 ∷ [])
+    ∷ said 10 (bits 0x3f00_0000 ∷ bits 0x3fc0_0000 ∷ whole (pos 1) ∷ bits 0x3f00_0000 ∷ whole (pos 1) ∷ [])
+    ∷ said 15 []
+    ∷ said 6 []
+    ∷ said 8 []
+    ∷ said 14 []
+    ∷ said 9 (bits 0x3f00_0000 ∷ bits 0x3fc0_0000 ∷ whole (pos 2) ∷ [])
+    ∷ said 13 []
+    ∷ said 6 []
+    ∷ []
+
 abbrev pub four_passes : List ℕ
 four_passes = bytes "(grow)\n(fill)\n(grow)\n(fill)\n"
+
+-- sixteen passes and as many as lines
+abbrev roled_pass : List ℕ
+roled_pass = bytes "(as dealer)\n(grow)\n"
+
+abbrev four_roled : List ℕ
+four_roled = roled_pass ++ (roled_pass ++ (roled_pass ++ roled_pass))
+
+abbrev sixteen_roled : List ℕ
+sixteen_roled = first_four ++ (four_roled ++ (four_roled ++ (four_roled ++ four_roled)))
 
 abbrev pub sixteen_passes : List ℕ
 sixteen_passes = first_four ++ (four_passes ++ (four_passes ++ (four_passes ++ four_passes)))
@@ -154,10 +186,25 @@ table =
     ∷ case (three_corners ++ bytes "(label 0 (0 0))\n(patch)\n(label 0 (0 0))\n(patch)\n") (refused_at Refusal.Malformed 11)
     ∷ case (three_corners ++ bytes "(shade 0 0)\n(patch)\n") (refused_at Refusal.Malformed 9)
     ∷ case (three_corners ++ bytes "(patch)\n(corner (41200000 41200000) 00000000)\n") (refused_at Refusal.Malformed 9)
+    -- as lines: read; a dealer's full grow, its numbers those of a bare one; a depot's local; the role holds over the next pass
+    ∷ case roled_example (accepted roled_meant)
+    ∷ case (first_four ++ bytes "(as dealer)\n(grow 3eb33333 3fc00000 3fa00000)\n") (refused_at Refusal.NotPermitted 6)
+    ∷ case (first_four ++ bytes "(as depot)\n(local 3f000000 3fc00000 1 3f000000 1)\n") (refused_at Refusal.NotPermitted 6)
+    ∷ case (first_four ++ bytes "(as dealer)\n(fill)\n(fill 3f000000 3fc00000 2)\n") (refused_at Refusal.NotPermitted 7)
+    -- a wild number before 10; a 17th pass before both; 10 before 8
+    ∷ case (first_four ++ bytes "(as dealer)\n(fill 3f000000 3fc00000 65)\n") (refused_at Refusal.OutOfRange 6)
+    ∷ case (sixteen_passes ++ bytes "(as dealer)\n(fill 3f000000 3fc00000 65)\n") (refused_at Refusal.OverLimit 22)
+    ∷ case (first_four ++ bytes "(patch)\n(as dealer)\n(fill 3f000000 3fc00000 2)\n") (refused_at Refusal.NotPermitted 7)
+    -- as lines are no passes: sixteen passes with an as line each, then another as line and a 17th pass
+    ∷ case (sixteen_roled ++ bytes "(as plant)\n(grow)\n") (refused_at Refusal.OverLimit 38)
+    -- behind an as line another, a label, the end
+    ∷ case (one_corner ++ bytes "(as dealer)\n(as plant)\n(grow)\n") (refused_at Refusal.Malformed 7)
+    ∷ case (one_corner ++ bytes "(as plant)\n(label 0 (0 0))\n") (refused_at Refusal.Malformed 7)
+    ∷ case (one_corner ++ bytes "(as plant)\n") (refused_at Refusal.Malformed 7)
     ∷ []
 
 pub examples_read : map (λ (c : Case). read_frame c.text) table ≡ map (λ (c : Case). c.read) table
-unfolding of_bits of_int le lt eq digits digit_value read_digits ends_of outside decimal_up_to decimal integer_text digits_after read_positive read_integer unheld_whole number_text printed piece_of fit_of lines_of rows row_at kind_at form_at turn_at may_end sort_of sort_at line_text bits_at whole_at pass_line_of first_fit read_line wild_bits number_outside some_outside outside_line checks_in_order over_limit twice_of opened adding parts_from parts_of some_of checked_line every kept cell_in asks asked agree agrees_in on_sheet tested told verdict is_found new_by union joined_by joined join_of finish step_line at_end read_lines read_frame
+unfolding of_bits of_int le lt eq digits digit_value read_digits ends_of outside decimal_up_to decimal integer_text digits_after read_positive read_integer unheld_whole number_text printed piece_of fit_of lines_of rows row_at kind_at form_at turn_at may_end sort_of sort_at line_text bits_at whole_at pass_line_of first_fit read_line wild_bits number_outside some_outside outside_line checks_in_order over_limit twice_of may_run forbidden opened adding parts_from parts_of some_of checked_line every kept cell_in asks asked agree agrees_in on_sheet tested told verdict is_found new_by union joined_by joined join_of finish step_line at_end read_lines read_frame
 examples_read = refl
 
 pub example_printed : frame_text meant ≡ example
@@ -171,3 +218,7 @@ shaded_printed = refl
 pub patched_printed : frame_text patched_meant ≡ patched_example
 unfolding digits decimal_up_to decimal integer_text number_text printed rows row_at form_at line_text frame_text
 patched_printed = refl
+
+pub roled_printed : frame_text roled_meant ≡ roled_example
+unfolding digits decimal_up_to decimal integer_text number_text printed rows row_at form_at line_text frame_text
+roled_printed = refl

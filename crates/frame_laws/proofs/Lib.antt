@@ -11,4 +11,6 @@ pub mod Shades
 pub mod Runs
 pub mod Unshaded
 pub mod BareGrow
+pub mod Roles
+pub mod Raised
 pub mod Examples

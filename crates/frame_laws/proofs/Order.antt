@@ -33,7 +33,7 @@ is_corner_sort (Some (Sort.Float q)) = false
 is_corner_sort (Some (Sort.Whole r low high)) = false
 is_corner_sort (Some Sort.Corner) = true
 
-no_sort : (k m : ℕ) → 5 ≤ m → sort_at k m ≡ None
+pub no_sort : (k m : ℕ) → 5 ≤ m → sort_at k m ≡ None
 unfolding sort_at sort_of
 no_sort k m l = ap sort_of (get_or-eq_default (take 5 (drop letters_from (row_at k))) 46 {n = m} (simp length-take (omega arith)))
 

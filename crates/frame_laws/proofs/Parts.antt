@@ -1,12 +1,12 @@
 -- The parts of a frame, kind by kind: what holds of all of a part, what comes no more, the limits before a line and after it, and what the lines
 -- say. Assumes nothing.
 use mathlib.Core.Path.{◌≡◌, refl, sym, ap, ◌∙◌}
-use mathlib.Core.Bool.{false, true≢false, Bool, true, cond}
+use mathlib.Core.Bool.{false, true≢false, Bool, true, not, cond}
 use mathlib.Core.List.{List, [], ◌∷◌, ◌++◌, map}
 use Prim.Native.Nat.{ℕ, zero, suc, ◌<◌, ◌≤◌}
 use native.Mathlib.Nat.{not-suc-le-zero}
 use native.Mathlib.Omega.{arith}
-use borrow.Author.Tests.{leb-false, lt-leb}
+use borrow.Author.Tests.{leb-false, lt-leb, not-false}
 use lib.ListN.{length, get_or, length-append}
 use lib.Dec.{leb}
 use lib.IntN.{nat_abs}
@@ -15,18 +15,18 @@ use Rattle.sheet.proofs.Laws.{eq_z_equal, equal_eq_z}
 use Rattle.labels.proofs.Below.{no_both}
 use Rattle.line_form.specs.Forms.{Number}
 use Rattle.frame_line.specs.Table.{row_count, turn_at, sort_at}
-use Rattle.frame_line.specs.Lines.{Line, kind_of, CornerLine, corner_line_of, LabelLine, label_line_of, ShadeLine, shade_line_of, PassLine, pass_line_of}
+use Rattle.frame_line.specs.Lines.{Line, kind_of, CornerLine, corner_line_of, LabelLine, label_line_of, ShadeLine, shade_line_of, PassLine, pass_kind, pass_line_of}
 use Rattle.frame_line.specs.declared.Kind.{Kind}
 use Rattle.frame_line.specs.declared.PassKind.{PassKind}
 use Rattle.frame_line.specs.declared.Sort.{Sort}
 use Rattle.std.proofs.Common.{Some}
 use Rattle.frame_line.proofs.Said.{CornerTame, PassTame, corner_said, label_exact, shade_corner, shade_kind, pass_said}
-use Rattle.frame_check.specs.Checks.{over_limit, twice_of}
+use Rattle.frame_check.specs.Checks.{over_limit, twice_of, may_run, forbidden}
 use Rattle.sizes.specs.Sizes.{corner_limit, pass_limit, byte_limit}
-use Rattle.frame.specs.Frame.{Parts, adding, added, parts_from, over_in, twice_in, Frame, no_parts, parts_of, collide, some_of, first_set, second_set}
+use Rattle.frame.specs.Frame.{RoledPass, Parts, adding, added, parts_from, over_in, twice_in, forbidden_in, Frame, no_parts, parts_of, collide, some_of, first_set, second_set}
 use Rattle.join.specs.Rule.{All}
-use Rattle.frame.specs.Text.{InOrder, ends, next, frame_text, InRange, Sound, SoundShade, Apart, ApartShades, Joinable, WithinLimits, LabelsSound, ShadesSound}
-use Rattle.frame.proofs.Sets.{not_so, all_then, differ_more, differ_before, apart_more, apart_before}
+use Rattle.frame.specs.Text.{InOrder, ends, next, frame_text, InRange, Sound, SoundShade, Apart, ApartShades, Permitted, Joinable, WithinLimits, LabelsSound, ShadesSound}
+use Rattle.frame.proofs.Sets.{not_so, all_then, all_before, differ_more, differ_before, apart_more, apart_before}
 use Rattle.frame_laws.proofs.Order.{opens, is_corner, past_corners, asked_corner}
 
 -- ---- what holds of all elements of a list
@@ -49,7 +49,7 @@ module _ (P : CornerLine → Type 0) (Q : LabelLine → Type 0) (S : ShadeLine �
     pub labels : All Q p.labels
     pub second : All Q p.second
     pub shades : All S p.shades
-    pub passes : All R p.passes
+    pub passes : All (λ q. R q.pass) p.passes
 
   -- it holds of what a line of this kind says
   pub record Says (k : Kind) (ns : List Number) : Type 0 where
@@ -91,13 +91,14 @@ module _ (P : CornerLine → Type 0) (Q : LabelLine → Type 0) (S : ShadeLine �
         shades = all_then S p.shades (shade_line_of ns ∷ []) a.shades (s.shade refl, tt);
         passes = a.passes;
       }
+  said (Kind.As r) ns p s a = record { corners = a.corners; labels = a.labels; second = a.second; shades = a.shades; passes = a.passes }
   said (Kind.Pass q) ns p s a =
       record {
         corners = a.corners;
         labels = a.labels;
         second = a.second;
         shades = a.shades;
-        passes = all_then R p.passes (pass_line_of q ns ∷ []) a.passes (s.pass q refl, tt);
+        passes = all_then (λ r. R r.pass) p.passes (record { role = p.role; pass = pass_line_of q ns } ∷ []) a.passes (s.pass q refl, tt);
       }
 
   pub parts_all : (p : Parts) (ls : List Line) → All (λ l. Says (kind_of l) l.numbers) ls → AllParts p → AllParts (parts_from p ls)
@@ -116,6 +117,7 @@ kept Kind.Corner ns p = (λ e. refl, λ e. absurd (true≢false e))
 kept Kind.Label ns p = (λ e. refl, λ e. refl)
 kept Kind.Patch ns p = (λ e. refl, λ e. refl)
 kept Kind.Shade ns p = (λ e. refl, λ e. refl)
+kept (Kind.As r) ns p = (λ e. refl, λ e. refl)
 kept (Kind.Pass q) ns p = (λ e. refl, λ e. refl)
 
 pub corners_kept : (s : ℕ) (p : Parts) (ls : List Line) → 4 < s → All (λ l. l.row < row_count) ls → InOrder s ls → (parts_from p ls).corners ≡ p.corners
@@ -161,11 +163,13 @@ pub record Limits (p : Parts) : Type 0 where
   pub once : Apart p.labels
   pub second_once : Apart p.second
   pub shaded_once : ApartShades p.shades
+  pub permitted : All Permitted p.passes
 
--- a line of this kind passes no limit, and is not doubled
+-- a line of this kind passes no limit, is not doubled, and is one that the role which holds may run
 pub record Fits (k : Kind) (ns : List Number) (p : Parts) : Type 0 where
   pub room : over_in p k ≡ false
   pub once : twice_in p k ns ≡ false
+  pub permitted : forbidden_in p k ≡ false
 
 -- a label in the set that is open, t being whether that is the second
 abbrev label_in : Bool → LabelLine → Parts → Parts
@@ -177,14 +181,24 @@ label_in t l p =
       patched = p.patched;
       second = cond t (p.second ++ (l ∷ [])) p.second;
       shades = p.shades;
+      role = p.role;
       passes = p.passes;
     }
 
+-- the kind of a pass line is that of its line
+pub kind_said : (q : PassKind) (ns : List Number) → pass_kind (pass_line_of q ns) ≡ q
+unfolding pass_line_of pass_kind
+kind_said PassKind.BareGrow ns = refl
+kind_said PassKind.Grow ns = refl
+kind_said PassKind.BareFill ns = refl
+kind_said PassKind.Fill ns = refl
+kind_said PassKind.Local ns = refl
+
 pub limits_after : (k : Kind) (ns : List Number) (p : Parts) → Fits k ns p → Limits p → Limits (adding k ns p)
-unfolding adding over_limit twice_of
-limits_after (Kind.Opening o) ns p f m = record { corners = m.corners; passes = m.passes; once = m.once; second_once = m.second_once; shaded_once = m.shaded_once }
+unfolding adding over_limit twice_of forbidden
+limits_after (Kind.Opening o) ns p f m = record { corners = m.corners; passes = m.passes; once = m.once; second_once = m.second_once; shaded_once = m.shaded_once; permitted = m.permitted }
 limits_after Kind.Corner ns p f m =
-    record { corners = one_longer corner_limit p.corners _ f.room; passes = m.passes; once = m.once; second_once = m.second_once; shaded_once = m.shaded_once }
+    record { corners = one_longer corner_limit p.corners _ f.room; passes = m.passes; once = m.once; second_once = m.second_once; shaded_once = m.shaded_once; permitted = m.permitted }
 limits_after Kind.Label ns p f m = go p.patched f.once
   where
     go : (t : Bool) → some_of (λ l. collide l (label_line_of ns)) (cond t p.second p.labels) ≡ false → Limits (label_in t (label_line_of ns) p)
@@ -195,6 +209,7 @@ limits_after Kind.Label ns p f m = go p.patched f.once
           once = m.once;
           second_once = apart_more p.second (label_line_of ns) m.second_once e;
           shaded_once = m.shaded_once;
+          permitted = m.permitted;
         }
     go false e =
         record {
@@ -203,9 +218,10 @@ limits_after Kind.Label ns p f m = go p.patched f.once
           once = apart_more p.labels (label_line_of ns) m.once e;
           second_once = m.second_once;
           shaded_once = m.shaded_once;
+          permitted = m.permitted;
         }
 limits_after Kind.Patch ns p f m =
-    record { corners = m.corners; passes = m.passes; once = m.once; second_once = m.second_once; shaded_once = m.shaded_once }
+    record { corners = m.corners; passes = m.passes; once = m.once; second_once = m.second_once; shaded_once = m.shaded_once; permitted = m.permitted }
 limits_after Kind.Shade ns p f m =
     record {
       corners = m.corners;
@@ -213,41 +229,60 @@ limits_after Kind.Shade ns p f m =
       once = m.once;
       second_once = m.second_once;
       shaded_once = differ_more DifferShade same_corner differ_shade other_corner p.shades (shade_line_of ns) m.shaded_once f.once;
+      permitted = m.permitted;
     }
+limits_after (Kind.As r) ns p f m =
+    record { corners = m.corners; passes = m.passes; once = m.once; second_once = m.second_once; shaded_once = m.shaded_once; permitted = m.permitted }
 limits_after (Kind.Pass q) ns p f m =
-    record { corners = m.corners; passes = one_longer pass_limit p.passes _ f.room; once = m.once; second_once = m.second_once; shaded_once = m.shaded_once }
+    let new : RoledPass = record { role = p.role; pass = pass_line_of q ns } in
+    let may : Permitted new = ap (may_run p.role) (kind_said q ns) ∙ not-false (may_run p.role q) f.permitted in
+    record {
+      corners = m.corners;
+      passes = one_longer pass_limit p.passes _ f.room;
+      once = m.once;
+      second_once = m.second_once;
+      shaded_once = m.shaded_once;
+      permitted = all_then Permitted p.passes (new ∷ []) m.permitted (may, tt);
+    }
 
 pub limits_before : (k : Kind) (ns : List Number) (p : Parts) → Limits (adding k ns p) → Limits p × Fits k ns p
-unfolding adding over_limit twice_of
+unfolding adding over_limit twice_of forbidden
 limits_before (Kind.Opening o) ns p m =
-    (record { corners = m.corners; passes = m.passes; once = m.once; second_once = m.second_once; shaded_once = m.shaded_once }, record { room = refl; once = refl })
+    (record { corners = m.corners; passes = m.passes; once = m.once; second_once = m.second_once; shaded_once = m.shaded_once; permitted = m.permitted }, record { room = refl; once = refl; permitted = refl })
 limits_before Kind.Corner ns p m =
     let h = shorter corner_limit p.corners _ m.corners in (
-      record { corners = omega arith; passes = m.passes; once = m.once; second_once = m.second_once; shaded_once = m.shaded_once },
-      record { room = lt-leb corner_limit (length p.corners) h; once = refl },
+      record { corners = omega arith; passes = m.passes; once = m.once; second_once = m.second_once; shaded_once = m.shaded_once; permitted = m.permitted },
+      record { room = lt-leb corner_limit (length p.corners) h; once = refl; permitted = refl },
     )
 limits_before Kind.Label ns p m =
-    let r = go p.patched m in (r.0, record { room = refl; once = r.1 })
+    let r = go p.patched m in (r.0, record { room = refl; once = r.1; permitted = refl })
   where
     go : (t : Bool) → Limits (label_in t (label_line_of ns) p)
         → Limits p × (some_of (λ l. collide l (label_line_of ns)) (cond t p.second p.labels) ≡ false)
     go true n =
         let a = apart_before p.second (label_line_of ns) n.second_once in
-        (record { corners = n.corners; passes = n.passes; once = n.once; second_once = a.0; shaded_once = n.shaded_once }, a.1)
+        (record { corners = n.corners; passes = n.passes; once = n.once; second_once = a.0; shaded_once = n.shaded_once; permitted = n.permitted }, a.1)
     go false n =
         let a = apart_before p.labels (label_line_of ns) n.once in
-        (record { corners = n.corners; passes = n.passes; once = a.0; second_once = n.second_once; shaded_once = n.shaded_once }, a.1)
+        (record { corners = n.corners; passes = n.passes; once = a.0; second_once = n.second_once; shaded_once = n.shaded_once; permitted = n.permitted }, a.1)
 limits_before Kind.Patch ns p m = (
-  record { corners = m.corners; passes = m.passes; once = m.once; second_once = m.second_once; shaded_once = m.shaded_once },
-  record { room = refl; once = refl },
+  record { corners = m.corners; passes = m.passes; once = m.once; second_once = m.second_once; shaded_once = m.shaded_once; permitted = m.permitted },
+  record { room = refl; once = refl; permitted = refl },
 )
 limits_before Kind.Shade ns p m =
     let a = differ_before DifferShade same_corner differ_shade other_corner p.shades (shade_line_of ns) m.shaded_once in
-    (record { corners = m.corners; passes = m.passes; once = m.once; second_once = m.second_once; shaded_once = a.0 }, record { room = refl; once = a.1 })
+    (record { corners = m.corners; passes = m.passes; once = m.once; second_once = m.second_once; shaded_once = a.0; permitted = m.permitted }, record { room = refl; once = a.1; permitted = refl })
+limits_before (Kind.As r) ns p m = (
+  record { corners = m.corners; passes = m.passes; once = m.once; second_once = m.second_once; shaded_once = m.shaded_once; permitted = m.permitted },
+  record { room = refl; once = refl; permitted = refl },
+)
 limits_before (Kind.Pass q) ns p m =
-    let h = shorter pass_limit p.passes _ m.passes in (
-      record { corners = m.corners; passes = omega arith; once = m.once; second_once = m.second_once; shaded_once = m.shaded_once },
-      record { room = lt-leb pass_limit (length p.passes) h; once = refl },
+    let h = shorter pass_limit p.passes _ m.passes in
+    let new : RoledPass = record { role = p.role; pass = pass_line_of q ns } in
+    let a = all_before Permitted p.passes new m.permitted in
+    let may : may_run p.role q ≡ true = sym (ap (may_run p.role) (kind_said q ns)) ∙ a.1 in (
+      record { corners = m.corners; passes = omega arith; once = m.once; second_once = m.second_once; shaded_once = m.shaded_once; permitted = a.0 },
+      record { room = lt-leb pass_limit (length p.passes) h; once = refl; permitted = ap not may },
     )
 
 pub limits_first : (p : Parts) (ls : List Line) → Limits (parts_from p ls) → Limits p
@@ -256,7 +291,7 @@ limits_first p [] m = m
 limits_first p (l ∷ ls) m = (limits_before (kind_of l) l.numbers p (limits_first (added p l) ls m)).0
 
 pub no_limits : Limits no_parts
-no_limits = record { corners = omega arith; passes = omega arith; once = tt; second_once = tt; shaded_once = tt }
+no_limits = record { corners = omega arith; passes = omega arith; once = tt; second_once = tt; shaded_once = tt; permitted = tt }
 
 -- of a frame
 pub within_limits : {f : Frame} → length (frame_text f) ≤ byte_limit → InOrder 0 f → All (InRange (length (parts_of f).corners)) f → Limits (parts_of f)
@@ -271,12 +306,13 @@ within_limits b o n m j =
       once = m.once;
       second_once = m.second_once;
       shaded_once = m.shaded_once;
+      permitted = m.permitted;
       joins = j;
     }
 
 pub frame_limits : {f : Frame} → WithinLimits f → Limits (parts_of f)
 frame_limits w =
-    record { corners = w.corners; passes = w.passes; once = w.once; second_once = w.second_once; shaded_once = w.shaded_once }
+    record { corners = w.corners; passes = w.passes; once = w.once; second_once = w.second_once; shaded_once = w.shaded_once; permitted = w.permitted }
 
 -- ---- what the lines say
 

@@ -70,6 +70,7 @@ patch_kind Kind.Corner e = absurd (true≢false (sym e))
 patch_kind Kind.Label e = absurd (true≢false (sym e))
 patch_kind Kind.Patch e = refl
 patch_kind Kind.Shade e = absurd (true≢false (sym e))
+patch_kind (Kind.As r) e = absurd (true≢false (sym e))
 patch_kind (Kind.Pass q) e = absurd (true≢false (sym e))
 
 -- what comes behind the labels of the first set
@@ -83,6 +84,7 @@ counts Kind.Corner = 1
 counts Kind.Label = 1
 counts Kind.Patch = 0
 counts Kind.Shade = 0
+counts (Kind.As r) = 0
 counts (Kind.Pass q) = 0
 
 -- from stage 6 on no patch line comes; up to stage 5 a late line comes behind the opening and leads past it, and any other is one of the first four, or a
@@ -143,6 +145,7 @@ patched_stays Kind.Corner ns p e = (refl, e)
 patched_stays Kind.Label ns p e = (ap (λ (t : Bool). cond t p.labels (p.labels ++ (label_line_of ns ∷ []))) e, e)
 patched_stays Kind.Patch ns p e = (refl, refl)
 patched_stays Kind.Shade ns p e = (refl, e)
+patched_stays (Kind.As r) ns p e = (refl, e)
 patched_stays (Kind.Pass q) ns p e = (refl, e)
 
 first_stays : (p : Parts) (ls : List Line) → p.patched ≡ true → ((parts_from p ls).labels ≡ p.labels) × ((parts_from p ls).patched ≡ true)
@@ -161,6 +164,7 @@ counted_on Kind.Corner ns p e = (simp length-append (omega arith), λ q. e)
 counted_on Kind.Label ns p e = (rw e (simp length-append (omega arith)), λ q. e)
 counted_on Kind.Patch ns p e = (omega arith, λ q. absurd (true≢false q))
 counted_on Kind.Shade ns p e = (omega arith, λ q. e)
+counted_on (Kind.As r) ns p e = (omega arith, λ q. e)
 counted_on (Kind.Pass q) ns p e = (omega arith, λ r. e)
 
 patch_late : (k : Kind) → is_late k ≡ false → is_patch k ≡ false
@@ -169,6 +173,7 @@ patch_late Kind.Corner e = refl
 patch_late Kind.Label e = refl
 patch_late Kind.Patch e = absurd (true≢false e)
 patch_late Kind.Shade e = refl
+patch_late (Kind.As r) e = refl
 patch_late (Kind.Pass q) e = refl
 
 late_patch : (k : Kind) → is_patch k ≡ true → is_late k ≡ true

@@ -30,7 +30,7 @@ use Rattle.std.proofs.Common.{Some}
 use Rattle.frame_line.proofs.Words.{counted}
 use Rattle.frame_line.proofs.Said.{AxesTame, PassTame, cell_said, axes_said, band_said}
 use Rattle.sizes.specs.Sizes.{corner_limit}
-use Rattle.frame.specs.Frame.{Frame, Opening, Parts, opened, adding, added, parts_from, no_parts, parts_of}
+use Rattle.frame.specs.Frame.{Frame, RoledPass, Opening, Parts, opened, adding, added, parts_from, no_parts, parts_of}
 use Rattle.join.specs.Rule.{All}
 use Rattle.frame.specs.Text.{InOrder, ends, next, InRange, WithinLimits}
 use Rattle.frame.specs.ReadFrame.{float_of, xs_of, ys_of, pitches_of, sheet_of, settings_of, full_of, pass_of}
@@ -175,9 +175,9 @@ module _ (f : Frame) (w : WithinLimits f) where
         box_as_left = refl;
       }
 
-  passes_fit : (ps : List PassLine) → All PassTame ps → All (CallInside (frame_corners f)) (map (call_of f) ps)
+  passes_fit : (ps : List RoledPass) → All (λ q. PassTame q.pass) ps → All (CallInside (frame_corners f)) (map (λ q. call_of f q.pass) ps)
   passes_fit [] t = tt
-  passes_fit (p ∷ ps) t = (pass_fit p t.0, passes_fit ps t.1)
+  passes_fit (p ∷ ps) t = (pass_fit p.pass t.0, passes_fit ps t.1)
 
   calls_fit : All (CallInside (frame_corners f)) (calls_of f)
   unfolding calls_of

@@ -25,7 +25,7 @@ use Rattle.frame_line.specs.Table.{rows, row_at, kind_at, sort_of, sort_at}
 use Rattle.frame_line.specs.Lines.{kind_of, ShadeLine, whole_at}
 use Rattle.frame_line.specs.Checks.{wild_whole, number_outside, some_outside, outside_line}
 use Rattle.frame_line.specs.declared.Kind.{Kind}
-use Rattle.frame_check.specs.Checks.{checks_in_order, over_limit, twice_of}
+use Rattle.frame_check.specs.Checks.{checks_in_order, over_limit, twice_of, forbidden}
 use Rattle.frame.specs.Frame.{Frame, Parts, adding, added, parts_from, no_parts, parts_of, some_of, join_of, given_of, checked_line}
 use Rattle.join.specs.Rule.{All}
 use Rattle.frame.specs.Text.{SoundShade, ApartShades, WithinLimits}
@@ -47,7 +47,7 @@ other_kind (pos (suc (suc n))) =
 other_kind (negsuc n) = refl
 
 pub shade_checked : ShadeChecked
-unfolding checked_line checks_in_order outside_line some_outside number_outside over_limit twice_of sort_at sort_of kind_at row_at rows unheld_whole whole_at
+unfolding checked_line checks_in_order outside_line some_outside number_outside over_limit twice_of forbidden sort_at sort_of kind_at row_at rows unheld_whole whole_at
 shade_checked p n k =
     ap₂
     (λ (a b : Bool). refused_if a Refusal.Malformed
@@ -204,6 +204,7 @@ unshaded p =
       patched = p.patched;
       second = p.second;
       shades = [];
+      role = p.role;
       passes = p.passes;
     }
 
@@ -214,6 +215,7 @@ unshaded_line Kind.Corner ns p = refl
 unshaded_line Kind.Label ns p = refl
 unshaded_line Kind.Patch ns p = refl
 unshaded_line Kind.Shade ns p = refl
+unshaded_line (Kind.As r) ns p = refl
 unshaded_line (Kind.Pass q) ns p = refl
 
 pub parts_unshaded : (p : Parts) (f : Frame) → parts_from (unshaded p) (without_shades f) ≡ unshaded (parts_from p f)

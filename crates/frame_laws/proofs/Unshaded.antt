@@ -168,6 +168,7 @@ within_without f w =
       once = rw e w.once;
       second_once = rw e w.second_once;
       shaded_once = rw e tt;
+      permitted = rw e w.permitted;
       joins = rw e w.joins;
     }
 

@@ -52,12 +52,12 @@ abbrev pub frame_rooms : Rooms
 frame_rooms = record { queue = 4 * corner_limit; attached = corner_limit }
 
 -- the call of a pass line: its numbers, those of a bare one included, the frame's cell size, axes, band and shades, and the label box that the last
--- call left, which is at first the one that the reader answers
+-- call left, which is at first the one that the reader answers. Who runs it is not among what a call is lent
 abbrev pub call_of : Frame → PassLine → Call
 call_of f p = record { pass = pass_of (full_of p); settings = settings_of f; shades = shades_of f; around = as_left; rooms = frame_rooms }
 
 unfoldable pub calls_of : Frame → List Call
-calls_of f = map (call_of f) (parts_of f).passes
+calls_of f = map (λ q. call_of f q.pass) (parts_of f).passes
 
 -- ---- the claim
 

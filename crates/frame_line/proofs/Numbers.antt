@@ -13,6 +13,7 @@ use lib.Signed.{le_z, lt_z}
 use lib.ListN.{get_or}
 use Rattle.std.proofs.Common.{Option, None, Some}
 use Rattle.refusal.specs.Refusal.{number_of}
+use Rattle.roles.specs.Roles.{role_number}
 use Rattle.labels.specs.Labelled.{any_below}
 use Rattle.labels.proofs.Below.{both}
 use Rattle.arguments.proofs.Chains.{or_false_both}
@@ -218,6 +219,7 @@ row_of (Kind.Pass PassKind.Fill) = 9
 row_of (Kind.Pass PassKind.Local) = 10
 row_of Kind.Shade = 11
 row_of Kind.Patch = 12
+row_of (Kind.As r) = 13 + role_number r
 
 pub row_of_lem : (k : ℕ) (kind : Kind) → k < row_count → kind_at k ≡ kind → k ≡ row_of kind
 unfolding kind_at

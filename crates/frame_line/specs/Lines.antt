@@ -126,6 +126,14 @@ pub record GrowNumbers : Type 0 where
 abbrev pub bare_grow : GrowNumbers
 bare_grow = record { search = 0x3eb3_3333; factor = 0x3fc0_0000; boundary = 0x3fa0_0000 }
 
+-- its kind
+unfoldable pub pass_kind : PassLine → PassKind
+pass_kind bare_grow_holds = PassKind.BareGrow
+pass_kind (grow search factor boundary) = PassKind.Grow
+pass_kind bare_fill = PassKind.BareFill
+pass_kind (fill search factor rounds) = PassKind.Fill
+pass_kind (local search factor rounds residual depth) = PassKind.Local
+
 unfoldable pub pass_line_of : PassKind → List Number → PassLine
 pass_line_of PassKind.BareGrow ns = bare_grow_holds
 pass_line_of PassKind.Grow ns = grow (bits_at 0 ns) (bits_at 1 ns) (bits_at 2 ns)

@@ -2,6 +2,7 @@
 use Rattle.std.specs.Prelude.{Bool, true, false, cond, List, [], ◌∷◌, ℕ, ◌+◌, ◌-◌, ltb, eqb, get_or, take, drop, Option, None, Some}
 use Rattle.binary32.specs.declared.ranges.Quantity.{Quantity}
 use Rattle.refusal.specs.declared.Refusal.{Refusal}
+use Rattle.roles.specs.declared.Role.{Role}
 use Rattle.line_form.specs.Integers.{offset}
 use Rattle.line_form.specs.Forms.{bytes}
 use Rattle.frame_line.specs.declared.Kind.{Kind}
@@ -11,31 +12,36 @@ use Rattle.frame_line.specs.declared.Sort.{Sort}
 
 -- "Lines, in order: frame, cell, axes (of i, then of j), band, corners (position, pitch; numbered from 0), labels (corner, cell), passes"; and of
 -- document 02, 1/14: "After the labels a frame may hold lines `(shade n k)`, corner n having kind k, 0 or 1", and 3/14: "A line `(patch)` before the
--- first shade or pass opens a second set of labels .. A second `(patch)` is 1".
+-- first shade or pass opens a second set of labels .. A second `(patch)` is 1"; and 6/14: "One line `(as dealer)`, `(as depot)` or `(as plant)` may
+-- stand right before any pass .. After it anything but a pass is number 1, as is the end".
 -- A row: for each stage before the line, the stage behind it, or . where the line may not come; a letter for each of its numbers; its form.
--- The stages: 0 to 3 frame, cell, axes, band must come; 4 corners; 5 labels; 6 labels of the second set; 7 shades; 8 passes.
+-- The stages: 0 to 3 frame, cell, axes, band must come; 4 corners; 5 labels; 6 labels of the second set; 7 shades; 8 passes;
+-- 9 an as line stands, and a pass must come.
 unfoldable pub rows : List (List ℕ)
 rows =
-    bytes "1........ ..... (frame 1)\n"
-    ∷ bytes ".2....... c.... (cell %)\n"
-    ∷ bytes "..3...... aaaa. (axes (% %) (% %))\n"
-    ∷ bytes "...4..... b.... (band %)\n"
-    ∷ bytes "....4.... xxp.. (corner (% %) %)\n"
-    ∷ bytes "....556.. nii.. (label # (# #))\n"
-    ∷ bytes "....88888 ..... (grow)\n"
-    ∷ bytes "....88888 mfm.. (grow % % %)\n"
-    ∷ bytes "....88888 ..... (fill)\n"
-    ∷ bytes "....88888 mfr.. (fill % % #)\n"
-    ∷ bytes "....88888 mfrmd (local % % # % #)\n"
-    ∷ bytes "....7777. nk... (shade # #)\n"
-    ∷ bytes "....66... ..... (patch)\n"
+    bytes "1......... ..... (frame 1)\n"
+    ∷ bytes ".2........ c.... (cell %)\n"
+    ∷ bytes "..3....... aaaa. (axes (% %) (% %))\n"
+    ∷ bytes "...4...... b.... (band %)\n"
+    ∷ bytes "....4..... xxp.. (corner (% %) %)\n"
+    ∷ bytes "....556... nii.. (label # (# #))\n"
+    ∷ bytes "....888888 ..... (grow)\n"
+    ∷ bytes "....888888 mfm.. (grow % % %)\n"
+    ∷ bytes "....888888 ..... (fill)\n"
+    ∷ bytes "....888888 mfr.. (fill % % #)\n"
+    ∷ bytes "....888888 mfrmd (local % % # % #)\n"
+    ∷ bytes "....7777.. nk... (shade # #)\n"
+    ∷ bytes "....66.... ..... (patch)\n"
+    ∷ bytes "....99999. ..... (as plant)\n"
+    ∷ bytes "....99999. ..... (as depot)\n"
+    ∷ bytes "....99999. ..... (as dealer)\n"
     ∷ []
 
 abbrev pub row_count : ℕ
-row_count = 13
+row_count = 16
 
 abbrev pub stage_count : ℕ
-stage_count = 9
+stage_count = 10
 
 abbrev pub letters_from : ℕ
 letters_from = stage_count + 1
@@ -62,6 +68,9 @@ kinds =
     ∷ Kind.Pass PassKind.Local
     ∷ Kind.Shade
     ∷ Kind.Patch
+    ∷ Kind.As Role.Plant
+    ∷ Kind.As Role.Depot
+    ∷ Kind.As Role.Dealer
     ∷ []
 
 unfoldable pub kind_at : ℕ → Kind
@@ -81,9 +90,9 @@ turn_by b = cond (ltb b 48) None (Some (b - 48))
 unfoldable pub turn_at : ℕ → ℕ → Option ℕ
 turn_at stage k = turn_by (get_or (take stage_count (row_at k)) stage 46)
 
--- "The first four lines must stand; the others may be none"
+-- "The first four lines must stand; the others may be none"; and after an as line "the end" is number 1
 abbrev pub ends : List Bool
-ends = false ∷ false ∷ false ∷ false ∷ true ∷ true ∷ true ∷ true ∷ true ∷ []
+ends = false ∷ false ∷ false ∷ false ∷ true ∷ true ∷ true ∷ true ∷ true ∷ false ∷ []
 
 unfoldable pub may_end : ℕ → Bool
 may_end stage = get_or ends stage false

@@ -13,6 +13,7 @@ ghost use Rattle.frame_line.specs.Held.{held_read};
 use binary32::ranges::Quantity;
 use line_form::read::fit_line;
 use refusal::Refusal;
+use roles::Role;
 use sheet::Cell;
 
 // A line of the opening: those that must stand.
@@ -42,6 +43,7 @@ pub enum Kind {
     Label,
     Patch,
     Shade,
+    As(Role),
     Pass(PassKind),
 }
 
@@ -87,15 +89,19 @@ pub struct HeldShade {
     pub kind: u32,
 }
 
-// How many stages there are: 0 to 3, frame, cell, axes and band must come; 4 corners; 5 labels; 6 labels of a second set; 7 shades; 8 passes.
-const STAGES: usize = 9;
+// How many stages there are: 0 to 3, frame, cell, axes and band must come; 4 corners; 5 labels; 6 labels of a second set; 7 shades; 8 passes; 9 an as
+// line stands, and a pass must come.
+const STAGES: usize = 10;
+
+// The stage behind an as line.
+const AS_STANDS: usize = 9;
 
 // How many rows there are.
-const ROWS: usize = 13;
+const ROWS: usize = 16;
 
 // A row of the table: the kind of line, the stage behind the line for each stage before it (. where it may not come), a letter for each of its numbers,
 // and its form.
-// Stays: a letter a number and a digit a stage, as the definition's table has them; as enums a row has five Options of a Sort and nine of a stage (d).
+// Stays: a letter a number and a digit a stage, as the definition's table has them; as enums a row has five Options of a Sort and ten of a stage (d).
 #[derive(Clone, Copy)]
 struct Row {
     kind: Kind,
@@ -107,81 +113,99 @@ struct Row {
 static TABLE: [Row; ROWS] = [
     Row {
         kind: Kind::Opening(OpeningKind::Frame),
-        turns: *b"1........",
+        turns: *b"1.........",
         letters: *b".....",
         form: b"(frame 1)\n",
     },
     Row {
         kind: Kind::Opening(OpeningKind::CellSize),
-        turns: *b".2.......",
+        turns: *b".2........",
         letters: *b"c....",
         form: b"(cell %)\n",
     },
     Row {
         kind: Kind::Opening(OpeningKind::Axes),
-        turns: *b"..3......",
+        turns: *b"..3.......",
         letters: *b"aaaa.",
         form: b"(axes (% %) (% %))\n",
     },
     Row {
         kind: Kind::Opening(OpeningKind::Band),
-        turns: *b"...4.....",
+        turns: *b"...4......",
         letters: *b"b....",
         form: b"(band %)\n",
     },
     Row {
         kind: Kind::Corner,
-        turns: *b"....4....",
+        turns: *b"....4.....",
         letters: *b"xxp..",
         form: b"(corner (% %) %)\n",
     },
     Row {
         kind: Kind::Label,
-        turns: *b"....556..",
+        turns: *b"....556...",
         letters: *b"nii..",
         form: b"(label # (# #))\n",
     },
     Row {
         kind: Kind::Pass(PassKind::BareGrow),
-        turns: *b"....88888",
+        turns: *b"....888888",
         letters: *b".....",
         form: b"(grow)\n",
     },
     Row {
         kind: Kind::Pass(PassKind::Grow),
-        turns: *b"....88888",
+        turns: *b"....888888",
         letters: *b"mfm..",
         form: b"(grow % % %)\n",
     },
     Row {
         kind: Kind::Pass(PassKind::BareFill),
-        turns: *b"....88888",
+        turns: *b"....888888",
         letters: *b".....",
         form: b"(fill)\n",
     },
     Row {
         kind: Kind::Pass(PassKind::Fill),
-        turns: *b"....88888",
+        turns: *b"....888888",
         letters: *b"mfr..",
         form: b"(fill % % #)\n",
     },
     Row {
         kind: Kind::Pass(PassKind::Local),
-        turns: *b"....88888",
+        turns: *b"....888888",
         letters: *b"mfrmd",
         form: b"(local % % # % #)\n",
     },
     Row {
         kind: Kind::Shade,
-        turns: *b"....7777.",
+        turns: *b"....7777..",
         letters: *b"nk...",
         form: b"(shade # #)\n",
     },
     Row {
         kind: Kind::Patch,
-        turns: *b"....66...",
+        turns: *b"....66....",
         letters: *b".....",
         form: b"(patch)\n",
+    },
+    Row {
+        kind: Kind::As(Role::Plant),
+        turns: *b"....99999.",
+        letters: *b".....",
+        form: b"(as plant)\n",
+    },
+    Row {
+        kind: Kind::As(Role::Depot),
+        turns: *b"....99999.",
+        letters: *b".....",
+        form: b"(as depot)\n",
+    },
+    Row {
+        kind: Kind::As(Role::Dealer),
+        turns: *b"....99999.",
+        letters: *b".....",
+        form: b"(as dealer)\n",
     },
 ];
 
@@ -253,10 +277,10 @@ pub fn turn_at(stage: usize, row: usize) -> Option<usize>
     turn_by(*TABLE.get(row)?.turns.get(stage)?)
 }
 
-// Whether a frame may end at a stage: once the first four lines stand.
+// Whether a frame may end at a stage: once the first four lines stand, and not right behind an as line.
 #[tactic(auto, unfolding(crate::specs::Table::may_end))]
 pub fn may_end(stage: usize) -> bool
     ensures { result ≡ may_end stage }
 {
-    (4..STAGES).contains(&stage)
+    (4..AS_STANDS).contains(&stage)
 }

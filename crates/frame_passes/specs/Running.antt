@@ -11,7 +11,8 @@ use Rattle.frame.specs.ReadFrame.{grow_of, fill_of, local_of}
 use Rattle.sizes.specs.Sizes.{pass_limit, pass_size, all_pass_words}
 use Rattle.report_words.specs.Asked.{with_outcome}
 
--- ---- a pass from its six words: kind (0 grow, 1 fill, 2 local), search, factor, boundary or residual, rounds, depth
+-- ---- a pass from its seven words: kind (0 grow, 1 fill, 2 local), search, factor, boundary or residual, rounds, depth; the last, its role, says
+-- nothing of what it does
 
 abbrev pub pass_word : List ℕ → ℕ → ℕ → ℕ
 pass_word words k m = get_or words (pass_size * k + m) 0
@@ -50,7 +51,7 @@ left_by_all l call (suc n) k s = left_by_all l call n (suc k) (left_by l (call k
 
 -- ---- what is asked of the buffers
 
--- n passes of six words each
+-- n passes of seven words each
 pub record PassWords (n : ℕ) (passes : List ℕ) : Type 0 where
   pub few : n ≤ pass_limit
   pub long : all_pass_words ≤ length passes

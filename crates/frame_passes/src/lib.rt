@@ -13,7 +13,7 @@ use frame::FrameHead;
 use sizes::PASS_WORDS;
 use std::num::f32_from_bits_with_nan;
 
-// The pass that six words stand for: kind 0 is grow, 1 fill, and any other local.
+// The pass that the first six of seven words stand for: kind 0 is grow, 1 fill, and any other local. Who runs it is asked by the reader alone.
 // Stays: the kinds are numbers, as the words are the C interface's; `call_text` makes a pass of other numbers at other places (a).
 #[tactic(auto, unfolding(crate::specs::Running::pass_at))]
 fn pass_at(passes: &[u32], k: usize) -> Pass

@@ -33,6 +33,7 @@ module _ (line : HeldLine) (s : State) (listed : line.row < row_count) (f : Adda
   by_kind Kind.Label e = label_found (patched_of s.progress) (label_in line.values) s (omega (arith, f.long)) (labels_room listed f e).label g
   by_kind Kind.Patch e = g
   by_kind Kind.Shade e = g
+  by_kind (Kind.As r) e = g
   by_kind (Kind.Pass p) e = g
 
 -- "Reading labels, joining and attaching must each keep them equal to what a search would find": reading

@@ -25,7 +25,7 @@ use Rattle.frame_line.specs.declared.HeldLine.{HeldLine}
 use Rattle.frame_line.proofs.Shapes.{row_of, row_of_lem}
 use Rattle.frame_line.proofs.Checking.{tame_finite}
 use Rattle.frame_line.proofs.Words.{word_tame, kind_known}
-use Rattle.frame_check.specs.Checks.{is_set, is_used, has_place, over_limit, label_twice, twice_of, twice_as, twice_held, checked_held, NumbersFine}
+use Rattle.frame_check.specs.Checks.{is_set, is_used, has_place, over_limit, label_twice, twice_of, twice_as, twice_held, forbidden, checked_held, NumbersFine}
 use Rattle.frame_check.specs.declared.Held.{Held}
 use Rattle.frame_check.proofs.Laws.{AllFine, fine_all, label_fits, shade_fits}
 use Rattle.sizes.specs.Sizes.{corner_limit, pass_limit}
@@ -41,9 +41,9 @@ many_room f n k h e =
 module _ {p : Progress} {a : Held} {line : HeldLine} (listed : line.row < row_count) (f : Addable p a line) where
   fine :
       AllFine (λ r. outside_held r p.corners line) (over_limit p.corners p.passes (kind_at line.row))
-      (twice_held (patched_of p) a (second_of p) line)
+      (twice_held (patched_of p) a (second_of p) line) (forbidden p.role (kind_at line.row))
   unfolding checked_held
-  fine = fine_all (λ r. outside_held r p.corners line) _ _ f.fine
+  fine = fine_all (λ r. outside_held r p.corners line) _ _ _ f.fine
 
   -- a float of a line is no NaN
   tame_at : (kind : Kind) → kind_at line.row ≡ kind → (m : ℕ) (q : Quantity) → m < 5 → sort_at (row_of kind) m ≡ Some (Sort.Float q) → Tame (get_or line.values m 0)

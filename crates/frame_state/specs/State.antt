@@ -6,6 +6,8 @@ use Rattle.std.specs.Float.Ieee.{of_bits, nan_bits}
 use Rattle.sizes.specs.Sizes.{place_count, corner_limit, pass_size}
 use Rattle.sheet.specs.Cells.{place_of}
 use Rattle.sheet.specs.Words.{attached}
+use Rattle.roles.specs.Roles.{role_number}
+use Rattle.roles.specs.declared.Role.{Role}
 use Rattle.arguments.specs.declared.Settings.{Settings}
 use Rattle.frame_line.specs.Table.{row_count, kind_at}
 use Rattle.frame_line.specs.Lines.{bare_grow}
@@ -38,7 +40,8 @@ pub record TameAxes (v : List ℕ) : Type 0 where
   pub jx : Tame (get_or v 2 0)
   pub jy : Tame (get_or v 3 0)
 
--- ---- cell size, axes and band, the numbers of corners, labels and passes, whether the patch line stands, the stage, and the label box
+-- ---- cell size, axes and band, the numbers of corners, labels and passes, whether the patch line stands, the stage, the role that holds,
+-- and the label box
 
 -- whether the patch line stands
 abbrev pub patched_of : Progress → Bool
@@ -48,7 +51,7 @@ patched_of p = is_some p.second
 abbrev pub second_of : Progress → ℕ
 second_of p = unwrap_or p.second 0
 
--- before the first line
+-- before the first line; "without one it is plant"
 abbrev pub nothing_said : Progress
 nothing_said =
     record {
@@ -67,6 +70,7 @@ nothing_said =
       second = None;
       passes = 0;
       stage = 0;
+      role = Role.Plant;
       around = None;
     }
 
@@ -79,6 +83,7 @@ at_stage p stage =
       second = p.second;
       passes = p.passes;
       stage = stage;
+      role = p.role;
       around = p.around;
     }
 
@@ -126,6 +131,7 @@ with_settings p s =
       second = p.second;
       passes = p.passes;
       stage = p.stage;
+      role = p.role;
       around = p.around;
     }
 
@@ -138,6 +144,7 @@ with_corner p =
       second = p.second;
       passes = p.passes;
       stage = p.stage;
+      role = p.role;
       around = p.around;
     }
 
@@ -151,6 +158,7 @@ with_label l p =
       second = p.second;
       passes = p.passes;
       stage = p.stage;
+      role = p.role;
       around = widened p.around l.cell;
     }
 
@@ -163,6 +171,7 @@ with_patch p =
       second = Some (second_of p);
       passes = p.passes;
       stage = p.stage;
+      role = p.role;
       around = p.around;
     }
 
@@ -175,6 +184,7 @@ with_second p =
       second = Some (second_of p + 1);
       passes = p.passes;
       stage = p.stage;
+      role = p.role;
       around = p.around;
     }
 
@@ -187,6 +197,21 @@ with_pass p =
       second = p.second;
       passes = p.passes + 1;
       stage = p.stage;
+      role = p.role;
+      around = p.around;
+    }
+
+-- an as line: its role holds
+abbrev pub with_role : Role → Progress → Progress
+with_role r p =
+    record {
+      settings = p.settings;
+      corners = p.corners;
+      labels = p.labels;
+      second = p.second;
+      passes = p.passes;
+      stage = p.stage;
+      role = r;
       around = p.around;
     }
 
@@ -229,27 +254,27 @@ shade_put s shades = set shades s.corner (s.kind + 1)
 
 -- ---- a pass
 
--- as six words: kind (0 grow, 1 fill, 2 local), search, factor, boundary or residual, rounds, depth; 0 for what the pass has not
-abbrev pub grow_words : List ℕ → List ℕ
-grow_words v = 0 ∷ get_or v 0 0 ∷ get_or v 1 0 ∷ get_or v 2 0 ∷ 0 ∷ 0 ∷ []
+-- as seven words: kind (0 grow, 1 fill, 2 local), search, factor, boundary or residual, rounds, depth, role; 0 for what the pass has not
+abbrev pub grow_words : Role → List ℕ → List ℕ
+grow_words r v = 0 ∷ get_or v 0 0 ∷ get_or v 1 0 ∷ get_or v 2 0 ∷ 0 ∷ 0 ∷ role_number r ∷ []
 
-abbrev pub fill_words : List ℕ → List ℕ
-fill_words v = 1 ∷ get_or v 0 0 ∷ get_or v 1 0 ∷ 0 ∷ count_in (get_or v 2 0) ∷ 0 ∷ []
+abbrev pub fill_words : Role → List ℕ → List ℕ
+fill_words r v = 1 ∷ get_or v 0 0 ∷ get_or v 1 0 ∷ 0 ∷ count_in (get_or v 2 0) ∷ 0 ∷ role_number r ∷ []
 
-abbrev pub local_words : List ℕ → List ℕ
-local_words v = 2 ∷ get_or v 0 0 ∷ get_or v 1 0 ∷ get_or v 3 0 ∷ count_in (get_or v 2 0) ∷ count_in (get_or v 4 0) ∷ []
+abbrev pub local_words : Role → List ℕ → List ℕ
+local_words r v = 2 ∷ get_or v 0 0 ∷ get_or v 1 0 ∷ get_or v 3 0 ∷ count_in (get_or v 2 0) ∷ count_in (get_or v 4 0) ∷ role_number r ∷ []
 
 -- bare `(grow)` means the numbers of `bare_grow`; "bare `(fill)` means 0.35 1.5 1", an integer 1,000,000 higher
-abbrev pub words_in : PassKind → List ℕ → List ℕ
-words_in PassKind.BareGrow v = grow_words (bare_grow.search ∷ bare_grow.factor ∷ bare_grow.boundary ∷ 0 ∷ 0 ∷ [])
-words_in PassKind.Grow v = grow_words v
-words_in PassKind.BareFill v = fill_words (0x3eb3_3333 ∷ 0x3fc0_0000 ∷ 1000001 ∷ 0 ∷ 0 ∷ [])
-words_in PassKind.Fill v = fill_words v
-words_in PassKind.Local v = local_words v
+abbrev pub words_in : Role → PassKind → List ℕ → List ℕ
+words_in r PassKind.BareGrow v = grow_words r (bare_grow.search ∷ bare_grow.factor ∷ bare_grow.boundary ∷ 0 ∷ 0 ∷ [])
+words_in r PassKind.Grow v = grow_words r v
+words_in r PassKind.BareFill v = fill_words r (0x3eb3_3333 ∷ 0x3fc0_0000 ∷ 1000001 ∷ 0 ∷ 0 ∷ [])
+words_in r PassKind.Fill v = fill_words r v
+words_in r PassKind.Local v = local_words r v
 
 -- the words of the m-th pass
 abbrev pub words_put : ℕ → List ℕ → List ℕ → List ℕ
-words_put m six l = take (pass_size * m) l ++ (six ++ drop (pass_size * m + pass_size) l)
+words_put m words l = take (pass_size * m) l ++ (words ++ drop (pass_size * m + pass_size) l)
 
 -- ---- what is written for a line
 
@@ -313,7 +338,7 @@ pub record Counted (p : Progress) (used second_used : List Bool) : Type 0 where
 
 -- a line can be added: it passed its checks, the corners before it are few enough, and the labels are counted
 pub record Addable (p : Progress) (a : Held) (line : HeldLine) : Type 0 where
-  pub fine : checked_held p.corners p.passes (patched_of p) a (second_of p) line ≡ Ok tt
+  pub fine : checked_held p.corners p.passes p.role (patched_of p) a (second_of p) line ≡ Ok tt
   pub few : p.corners ≤ corner_limit
   pub long : length a.sheet ≡ place_count
   pub counted : Counted p a.used a.second_used
@@ -325,7 +350,9 @@ adds_as Kind.Corner v s = state (with_corner s.progress) (corner_put s.progress.
 adds_as Kind.Label v s = label_to (patched_of s.progress) (label_in v) s
 adds_as Kind.Patch v s = state (with_patch s.progress) s.held
 adds_as Kind.Shade v s = state s.progress (with_shades s.held (shade_put (shade_in v) s.held.shades))
-adds_as (Kind.Pass p) v s = state (with_pass s.progress) (with_passes s.held (words_put s.progress.passes (words_in p v) s.held.passes))
+adds_as (Kind.As r) v s = state (with_role r s.progress) s.held
+adds_as (Kind.Pass p) v s =
+    state (with_pass s.progress) (with_passes s.held (words_put s.progress.passes (words_in s.progress.role p v) s.held.passes))
 
 abbrev pub adds : HeldLine → State → State
 adds line s = adds_as (kind_at line.row) line.values s

@@ -16,11 +16,12 @@ use join_sheet::SecondLabel;
 use labels::Bounds;
 use predict::{Grid, Vector};
 use refusal::Refusal;
+use roles::Role;
 use sizes::PASS_WORDS;
 
 // Cell size, axes and band, how many corners, labels of the first set, labels of the second, None where no patch line stands, and passes there are,
-// the stage that the lines have come to, and the label box that is kept with the sheet: it is widened by each label of the first set. The join
-// widens it by those of the second.
+// the stage that the lines have come to, the role that holds, and the label box that is kept with the sheet: it is widened by each label of the first
+// set. The join widens it by those of the second.
 #[derive(Clone, Copy, Default)]
 pub struct Progress {
     pub settings: Settings,
@@ -29,6 +30,7 @@ pub struct Progress {
     pub second: Option<usize>,
     pub passes: usize,
     pub stage: usize,
+    pub role: Role,
     pub around: Option<Bounds>,
 }
 
@@ -77,38 +79,46 @@ const BARE_GROW: [u32; 5] = [0x3eb3_3333, 0x3fc0_0000, 0x3fa0_0000, 0, 0];
 
 const BARE_FILL: [u32; 5] = [0x3eb3_3333, 0x3fc0_0000, 1_000_001, 0, 0];
 
-// A pass as six words: kind (0 grow, 1 fill, 2 local), search, factor, boundary or residual, rounds, depth; 0 for what the pass has not.
-// Stays: the kind is a number, since the C interface lends passes as words (a).
-fn grow_words(v: [u32; 5]) -> [u32; PASS_WORDS]
-    ensures { result ≡ grow_words v }
+// A pass as seven words: kind (0 grow, 1 fill, 2 local), search, factor, boundary or residual, rounds, depth, role; 0 for what the pass has not.
+// Stays: the kind and the role are numbers, since the C interface lends passes as words (a).
+fn grow_words(role: Role, v: [u32; 5]) -> [u32; PASS_WORDS]
+    ensures { result ≡ grow_words role v }
 {
-    [0, v[0], v[1], v[2], 0, 0]
+    [0, v[0], v[1], v[2], 0, 0, roles::number(role)]
 }
 
 // Stays: as `grow_words` (a).
-fn fill_words(v: [u32; 5]) -> [u32; PASS_WORDS]
-    ensures { result ≡ fill_words v }
+fn fill_words(role: Role, v: [u32; 5]) -> [u32; PASS_WORDS]
+    ensures { result ≡ fill_words role v }
 {
-    [1, v[0], v[1], 0, count_of(v[2]), 0]
+    [1, v[0], v[1], 0, count_of(v[2]), 0, roles::number(role)]
 }
 
 // Stays: as `grow_words` (a).
-fn local_words(v: [u32; 5]) -> [u32; PASS_WORDS]
-    ensures { result ≡ local_words v }
+fn local_words(role: Role, v: [u32; 5]) -> [u32; PASS_WORDS]
+    ensures { result ≡ local_words role v }
 {
-    [2, v[0], v[1], v[3], count_of(v[2]), count_of(v[4])]
+    [
+        2,
+        v[0],
+        v[1],
+        v[3],
+        count_of(v[2]),
+        count_of(v[4]),
+        roles::number(role),
+    ]
 }
 
-// The words of a pass line, with the numbers of a bare one.
-fn words_of(kind: PassKind, v: [u32; 5]) -> [u32; PASS_WORDS]
-    ensures { result ≡ words_in kind v }
+// The words of a pass line that a role runs, with the numbers of a bare one.
+fn words_of(role: Role, kind: PassKind, v: [u32; 5]) -> [u32; PASS_WORDS]
+    ensures { result ≡ words_in role kind v }
 {
     match kind {
-        PassKind::BareGrow => grow_words(BARE_GROW),
-        PassKind::Grow => grow_words(v),
-        PassKind::BareFill => fill_words(BARE_FILL),
-        PassKind::Fill => fill_words(v),
-        PassKind::Local => local_words(v),
+        PassKind::BareGrow => grow_words(role, BARE_GROW),
+        PassKind::Grow => grow_words(role, v),
+        PassKind::BareFill => fill_words(role, BARE_FILL),
+        PassKind::Fill => fill_words(role, v),
+        PassKind::Local => local_words(role, v),
     }
 }
 
@@ -189,8 +199,8 @@ impl Reading {
     pub fn check_line(&self, line: ListedLine) -> Result<(), Refusal>
         requires few { self.now.progress.corners ≤ corner_limit }
         requires second_few { second_of self.now.progress ≤ corner_limit }
-        ensures { result ≡ checked_held self.now.progress.corners self.now.progress.passes (patched_of self.now.progress) self.now.held
-            (second_of self.now.progress) line.held }
+        ensures { result ≡ checked_held self.now.progress.corners self.now.progress.passes self.now.progress.role
+            (patched_of self.now.progress) self.now.held (second_of self.now.progress) line.held }
     {
         let p = self.progress;
         let said = Said {
@@ -198,6 +208,7 @@ impl Reading {
             corners: p.corners,
             passes: p.passes,
             labels: p.second,
+            role: p.role,
         };
         said.check_line(line)
     }
@@ -243,8 +254,11 @@ impl Reading {
                 self.progress.second = Some(p.second.unwrap_or(0));
             }
             Kind::Shade => put_shade(&mut self.held, frame_number::shade_of(v)),
+            Kind::As(role) => {
+                self.progress.role = role;
+            }
             Kind::Pass(pass) => {
-                put_pass(&mut self.held, p.passes, words_of(pass, v));
+                put_pass(&mut self.held, p.passes, words_of(p.role, pass, v));
                 self.progress.passes += 1;
             }
         }

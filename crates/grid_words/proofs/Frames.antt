@@ -58,6 +58,7 @@ not_0 Refusal.Duplicate e = omega arith
 not_0 Refusal.BufferTooShort e = omega arith
 not_0 Refusal.NoSharedCorner e = omega arith
 not_0 Refusal.PatchesClash e = omega arith
+not_0 Refusal.NotPermitted e = omega arith
 
 -- the box of a sheet at the front of a buffer is that of the buffer
 front_box : (sheet rest : List ℕ) → 16384 ≤ length sheet → box_kept sheet ≡ box_kept (sheet ++ rest)

@@ -1,11 +1,11 @@
-// The reasons for which a frame or a library call may be refused: the seven of document 01, the table of refusals, and those of document 02, 3/14.
+// The reasons for which a frame or a library call may be refused: the seven of document 01, the table of refusals, and those of document 02, 3/14 and 6/14.
 
 #![tactic(auto)]
 
 ghost use Rattle.std.specs.Prelude.{◌≡◌};
 ghost use Rattle.refusal.specs.Refusal.{number_of};
 
-// Each case has its number beside it, and 01's word; 02 has no word for 8 and 9.
+// Each case has its number beside it, and the word of 01 or 02; 02 has none for 8 and 9.
 #[derive(Clone, Copy, Debug, PartialEq, Eq)]
 pub enum Refusal {
     // bent: a line is missing, out of order or ill-formed
@@ -26,6 +26,8 @@ pub enum Refusal {
     NoSharedCorner = 8,
     // no shift gives every shared corner one cell and every cell one corner
     PatchesClash = 9,
+    // not yours: the role may not run the pass
+    NotPermitted = 10,
 }
 
 impl From<Refusal> for u8 {

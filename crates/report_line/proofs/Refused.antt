@@ -14,7 +14,7 @@ use Rattle.report_line.specs.Result.{count}
 use Rattle.report_line.specs.Refused.{refused_text}
 use Rattle.report_line.proofs.Wide.{printed_wide, count_wide}
 
-pub number_small : (r : Refusal) → number_of r ≤ 9
+pub number_small : (r : Refusal) → number_of r ≤ 10
 number_small Refusal.Malformed = omega arith
 number_small Refusal.OverLimit = omega arith
 number_small Refusal.OutOfRange = omega arith
@@ -24,6 +24,7 @@ number_small Refusal.Duplicate = omega arith
 number_small Refusal.BufferTooShort = omega arith
 number_small Refusal.NoSharedCorner = omega arith
 number_small Refusal.PatchesClash = omega arith
+number_small Refusal.NotPermitted = omega arith
 
 refused_form : (r : Refusal) (line a b : ℕ) → unheld_whole a ≡ pos (number_of r) → unheld_whole b ≡ pos line
     → form_text (bytes "(refused # #)\n") (a ∷ b ∷ []) ≡ refused_text r line

@@ -17,7 +17,7 @@ pass_limit = 16
 
 -- words of a pass as the reader writes it, and of an outcome
 abbrev pub pass_size : ℕ
-pass_size = 6
+pass_size = 7
 
 abbrev pub outcome_size : ℕ
 outcome_size = 11

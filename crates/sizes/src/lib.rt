@@ -13,7 +13,7 @@ pub const CORNERS: usize = 1024;
 pub const PASSES: usize = 16;
 
 // Words of a pass as the reader writes it, and of an outcome.
-pub const PASS_WORDS: usize = 6;
+pub const PASS_WORDS: usize = 7;
 
 pub const OUTCOME_WORDS: usize = 11;
 

@@ -11,15 +11,15 @@ returns c =
     rows_tried c.args.line.now _
     (λ e j l.
     let h = rw e at c.find_map.ensures.runs in
-    let k = each_came h.0 13 h.1 _ h.2.0 (h.2.1 (λ a r f' k. search rules)) j l in
+    let k = each_came h.0 16 h.1 _ h.2.0 (h.2.1 (λ a r f' k. search rules)) j l in
     search rules)
     (λ d e.
     let h = rw e at c.find_map.ensures.runs in
     let i : ℕ = h.2.0 in
     let w = h.2.3 (λ a r f' k. search rules) in
-    let k = one_came h.0 13 h.1 _ i (h.2.1) w.0 in (
+    let k = one_came h.0 16 h.1 _ i (h.2.1) w.0 in (
       i,
-      omega (arith, few_came h.0 13 h.1, h.2.1),
+      omega (arith, few_came h.0 16 h.1, h.2.1),
       search rules,
-      λ j l. let m = before_came h.0 13 h.1 _ i (omega (arith, h.2.1)) w.1 j l in search rules,
+      λ j l. let m = before_came h.0 16 h.1 _ i (omega (arith, h.2.1)) w.1 j l in search rules,
     ))
