@@ -1,7 +1,7 @@
 #!/usr/bin/env python3
 """Frames that try the reader and the printer: every refusal, the order of the
 checks, exact limits, damage, shades (02, 1/14), bare grow (02, 2/14), two patches
-(02, 3/14), and results longer than the output buffer.
+(02, 3/14), roles (02, 6/14), and results longer than the output buffer.
 
     cases.py               checks reference.py against the refusals written here
     cases.py --out FOLDER  writes each case as NAME.frame and NAME.result
@@ -69,6 +69,13 @@ NOT_TAKEN = """(result 1)
 (hole (1 1))
 (hole (2 0))
 """
+
+# 01's example with a pass of each role, the as lines being lines 10, 12 and 14. The
+# full lines mean what the bare ones mean.
+FRONT = HEAD + CORNERS + LABELS
+GROW, FILL = "(grow 3eb33333 3fc00000 3fa00000)", "(fill 3eb33333 3fc00000 1)"
+ROLES = DEALER, DEPOT, PLANT = "(as dealer)", "(as depot)", "(as plant)"
+ROLED = FRONT + [DEALER, "(grow)", DEPOT, FILL, PLANT, LOCAL]
 
 BUFFER = 4096  # the program's output buffer
 LEAST = 128  # it is written out when fewer bytes are left
@@ -619,6 +626,320 @@ def large_patches():
     yield "patch-860-both-9", patched(labels, later[:-1] + [(859, 63, 63)], corners=corners), refused(9, 1725)
 
 
+# ---- roles: 10, and 1 for what stands behind an as line
+
+
+def told(*passes, shades=()):
+    """By hand: the result of FRONT with these passes, and as lines among them. The
+    first grow or fill finds corner 2 at (2, 0), where it is expected; after that no
+    corner is free. Grow looks at the 8 cells around these three and finds nothing
+    there, and local has fewer than 4 labels."""
+    lines, found, marked = [], False, False
+    for line in passes:
+        kind = line.strip("()").split(" ")[0]
+        if kind == "grow":
+            lines.append("(grow 0 8 0 0 no)" if found else "(grow 1 8 0 0 no)")
+            found = marked = True
+        elif kind == "fill":
+            lines.append("(fill 0 1 no)" if found else "(fill 1 1 no)")
+            found = True
+        elif kind == "local":
+            lines.append("(local 0 0 0 0 0 none no)")
+            lines += ["(unmatched 0)"] * (len(shades) > 0)
+    lines += ["(cell (0 0) 0)", "(cell (1 0) 1)"] + ["(cell (2 0) 2)"] * found
+    if marked:
+        lines += [f"(hole ({i} {j}))" for i, j in ((-1, 0), (0, -1), (0, 1), (1, -1), (1, 1), (2, -1), (2, 1), (3, 0))]
+    return "".join(line + "\n" for line in ["(result 1)"] + lines)
+
+
+def who_may_run():
+    """Every role with every form of pass, and each form before any as line."""
+    forms = {"grow": "(grow)", "fill": "(fill)", "full-grow": GROW, "full-fill": FILL, "local": LOCAL}
+    for role, may in (("dealer", "yynnn"), ("depot", "yyyyn"), ("plant", "yyyyy")):
+        for (name, line), answer in zip(forms.items(), may):
+            yield f"as-{role}-{name}", text(FRONT + [f"(as {role})", line]), told(line) if answer == "y" else refused(10, 11)
+    for name, line in forms.items():
+        yield f"as-none-{name}", text(FRONT + [line]), told(line)
+    yield "as-each", text(ROLED), told("(grow)", FILL, LOCAL)
+    # Bare is the text: the numbers of bare grow, written out, in any way that has their values.
+    yield "as-dealer-old-grow", text(FRONT + [DEALER, "(grow 3eb33333 3fc00000 40000000)"]), refused(10, 11)
+    yield "as-dealer-other-fill", text(FRONT + [DEALER, "(fill 3eb33333 3fc00000 2)"]), refused(10, 11)
+    yield "as-dealer-zero-grow", text(FRONT + [DEALER, "(grow 00000000 00000000 80000000)"]), refused(10, 11)
+    yield "as-dealer-zero-local", text(FRONT + [DEALER, "(local 00000000 00000000 0 00000000 0)"]), refused(10, 11)
+    yield "as-depot-zero-local", text(FRONT + [DEPOT, "(local 00000000 00000000 0 00000000 0)"]), refused(10, 11)
+    for name, y, answer in (("by-4.375", "41660000", TAKEN), ("past-4.375", "41660001", NOT_TAKEN)):
+        for role in ROLES:
+            front = HEAD + CORNERS[:2] + [corner("41f00000", y)] + LABELS
+            yield f"as-{role[4:-1]}-bare-{name}", text(front + [role, "(grow)"]), answer
+
+
+WILD_PASSES = {
+    "grow-search": "(grow 41800001 3fc00000 3fa00000)",
+    "grow-factor": "(grow 3eb33333 7fc00000 3fa00000)",
+    "grow-boundary": "(grow 3eb33333 3fc00000 80000001)",
+    "fill-search": "(fill ff800000 3fc00000 1)",
+    "fill-factor": "(fill 3eb33333 447a0001 1)",
+    "fill-rounds": "(fill 3eb33333 3fc00000 65)",
+    "local-search": "(local bf800000 3fc00000 1 3e800000 1)",
+    "local-rounds": "(local 3eb33333 3fc00000 -1 3e800000 1)",
+    "local-residual": "(local 3eb33333 3fc00000 1 41800001 1)",
+    "local-depth": "(local 3eb33333 3fc00000 1 3e800000 5)",
+}
+BENT_PASSES = {
+    "bare-local": "(local)",
+    "grow-two": "(grow 3eb33333 3fc00000)",
+    "grow-four": GROW[:-1] + " 3f800000)",
+    "grow-space": "(grow )",
+    "grow-upper": GROW.replace("e", "E"),
+    "fill-float": "(fill 3eb33333 3fc00000 3f800000)",
+    "local-four": LOCAL[:-3] + ")",
+    "local-bracket": LOCAL[:-1],
+    "local-space-behind": LOCAL + " ",
+    "local-cr": LOCAL + "\r",
+    "local-zero": LOCAL.replace(" 1)", " 01)"),
+    "unknown": "(shrink)",
+}
+
+
+def order_of_roles():
+    """1, 2 and 3 come before 10. The pass stands on line 11, or on line 27 behind 16 others."""
+    for role in ROLES:
+        for name, line in WILD_PASSES.items():
+            yield f"as-wild-{role[4:-1]}-{name}", text(FRONT + [role, line]), refused(3, 11)
+        for name, line in BENT_PASSES.items():
+            yield f"as-bent-{role[4:-1]}-{name}", text(FRONT + [role, line]), refused(1, 11)
+    yield "as-wild-dealer-long", text(FRONT + [DEALER, f"(fill 3eb33333 3fc00000 1{'0' * 9999})"]), refused(3, 11)
+    sixteen = FRONT + PASSES * 16
+    for name, lines, number, line in (
+        ("17", [PLANT, "(grow)"], 2, 27),
+        ("17-not-its-own", [DEALER, LOCAL], 2, 27),
+        ("17-full", [DEALER, GROW], 2, 27),
+        ("17-depot", [DEPOT, LOCAL], 2, 27),
+        ("17-own", [DEALER, "(fill)"], 2, 27),
+        ("17-wild", [PLANT, WILD_PASSES["fill-rounds"]], 2, 27),
+        ("17-wild-not-its-own", [DEALER, WILD_PASSES["local-depth"]], 2, 27),
+        ("17-bent-not-its-own", [DEALER, "(local)"], 1, 27),
+        ("17-bent", [PLANT, "(grow )"], 1, 27),
+        ("17-nothing", [PLANT], 1, 27),
+        ("17-nothing-dealer", [DEALER], 1, 27),
+        ("17-as", [DEALER, PLANT, "(grow)"], 1, 27),
+        ("17-corner", [PLANT, CORNERS[0]], 1, 27),
+        ("17-half", [PLANT, ""], 1, 27),
+    ):
+        yield f"as-{name}", text(sixteen + lines), refused(number, line)
+    yield "as-17-no-lf", text(sixteen + [PLANT]) + b"(grow)", refused(1, 27)
+    # As lines are no passes.
+    yield "as-16-passes", text(FRONT + [DEALER, "(grow)"] * 16), told(*["(grow)"] * 16)
+    yield "as-17-passes", text(FRONT + [DEALER, "(grow)"] * 17), refused(2, 43)
+    yield "as-16-passes-one", text(FRONT + PASSES * 15 + [DEALER, "(fill)"]), told(*["(grow)"] * 15, "(fill)")
+    yield "as-16-passes-last", text(FRONT + [DEALER] + PASSES * 15 + [LOCAL]), refused(10, 26)
+    yield "as-bytes-65537", (text(HEAD + many_corners(1024)) + b"(as plant)\n(grow)\n" * 2000)[:65537], refused(2, 0)
+    yield "as-bytes-65536", (text(HEAD + many_corners(1024)) + b"(as plant)\n(grow)\n" * 2000)[:65536], refused(2, 1062)
+
+
+def behind_as_lines():
+    """What is no pass, on the line behind an as line; and the end."""
+    others = {
+        "corner": CORNERS[0],
+        "label": "(label 2 (5 5))",
+        "shade": "(shade 2 0)",
+        "patch": "(patch)",
+        "dealer": DEALER,
+        "depot": DEPOT,
+        "plant": PLANT,
+        "empty": "",
+        "frame": HEAD[0],
+        "cell": HEAD[1],
+        "axes": HEAD[2],
+        "band": HEAD[3],
+        "nonsense": "(nonsense)",
+        "wild-corner": corner(x="7f800000"),
+        "stranger": "(label 3 (5 5))",
+        "off-sheet": "(label 2 (64 0))",
+        "doubled": "(label 0 (5 5))",
+        "stranger-shade": "(shade 3 0)",
+        "kind-2": "(shade 0 2)",
+        "almost": "(as dealers)",
+        "result": "(grow 1 8 0 0 no)",
+    }
+    for role in ROLES:
+        word = role[4:-1]
+        for name, line in others.items():
+            yield f"as-{word}-then-{name}", text(FRONT + [role, line, "(grow)"]), refused(1, 11)
+        yield f"as-{word}-then-end", text(FRONT + [role]), refused(1, 11)
+        yield f"as-{word}-then-half", text(FRONT + [role]) + b"(gro", refused(1, 11)
+        yield f"as-{word}-then-no-lf", text(FRONT + [role]) + b"(grow)", refused(1, 11)
+        yield f"as-{word}-no-lf", text(FRONT) + role.encode(), refused(1, 10)
+        yield f"as-{word}-end-behind-pass", text(EXAMPLE + [role]), refused(1, 12)
+        yield f"as-{word}-end-behind-two", text(FRONT + [role, "(grow)", role]), refused(1, 13)
+        yield f"as-{word}-end-no-corners", text(HEAD + [role]), refused(1, 6)
+    yield "as-twice-at-end", text(EXAMPLE + [DEALER, DEALER]), refused(1, 12)
+    yield "as-three-times", text(FRONT + [PLANT, PLANT, PLANT, "(grow)"]), refused(1, 11)
+    yield "as-twice-not-its-own", text(FRONT + [DEALER, DEALER, LOCAL]), refused(1, 11)
+
+
+def misplaced_as_lines():
+    """An as line ends all lines before the passes, and may stand right behind any of them."""
+    for number in range(1, 5):
+        yield f"as-in-heading-{number}", put_in(number, PLANT), refused(1, number)
+        yield f"as-for-heading-{number}", changed(number, PLANT), refused(1, number)
+    none = "(result 1)\n(grow 0 0 0 0 no)\n"
+    yield "as-behind-band", text(HEAD + [DEALER, "(grow)"]), none
+    yield "as-behind-band-10", text(HEAD + [DEALER, GROW]), refused(10, 6)
+    yield "as-behind-band-local", text(HEAD + [PLANT, LOCAL]), "(result 1)\n(local 0 0 0 0 0 none no)\n"
+    yield "as-behind-corners", text(HEAD + CORNERS + [DEPOT, GROW]), none
+    yield "as-behind-shades", text(FRONT + SHADES + [DEALER, "(grow)"]), told("(grow)")
+    yield "as-behind-shades-10", text(FRONT + SHADES + [DEPOT, LOCAL]), refused(10, 13)
+    yield "as-behind-shades-local", text(FRONT + SHADES + [PLANT, LOCAL]), told(LOCAL, shades=SHADES)
+    yield "as-before-corners", put_in(5, PLANT), refused(1, 6)
+    yield "as-among-corners", put_in(6, PLANT), refused(1, 7)
+    yield "as-before-labels", put_in(8, PLANT), refused(1, 9)
+    yield "as-among-labels", put_in(9, PLANT), refused(1, 10)
+    yield "as-among-shades", put_in(11, PLANT, SHADED), refused(1, 12)
+    for name, line in (("corner", CORNERS[0]), ("label", "(label 2 (5 5))"), ("shade", "(shade 2 0)"), ("patch", "(patch)"), ("frame", HEAD[0])):
+        yield f"as-pass-then-{name}", text(FRONT + [PLANT, "(grow)", line]), refused(1, 12)
+    yield "as-bare-then-label", text(FRONT + [DEALER, "(grow)", "(label 2 (5 5))"]), refused(1, 12)
+    yield "as-patch-then-label", patched(ONE, [], [PLANT, "(label 0 (0 0))"]), refused(1, 11)
+    yield "as-second-then-patch", patched(ONE, ONE, [PLANT, "(patch)"]), refused(1, 12)
+
+
+def roles_that_hold():
+    """A role holds over all passes until the next as line; before the first it is the plant's."""
+    for name, lines in (
+        ("three", [DEALER, "(grow)", "(fill)", "(grow)"]),
+        ("four", [DEPOT, GROW, FILL, "(grow)", "(fill)"]),
+        ("again", [DEALER, "(grow)", DEALER, "(fill)"]),
+        ("plant-again", [PLANT, GROW, PLANT, LOCAL]),
+        ("rising", [DEALER, "(grow)", DEPOT, GROW, PLANT, LOCAL]),
+        ("falling", [PLANT, LOCAL, DEPOT, FILL, DEALER, "(fill)"]),
+        ("back", [LOCAL, DEALER, "(fill)", PLANT, LOCAL]),
+        ("back-twice", [DEALER, "(grow)", PLANT, LOCAL, DEALER, "(fill)", PLANT, GROW, LOCAL]),
+        ("first-two", [LOCAL, GROW, DEALER, "(grow)", "(fill)"]),
+        ("last", [GROW, FILL, LOCAL, DEPOT, FILL]),
+    ):
+        yield f"as-hold-{name}", text(FRONT + lines), told(*lines)
+    for name, lines, line in (
+        ("third", [DEALER, "(grow)", "(fill)", GROW], 13),
+        ("second", [DEALER, "(grow)", LOCAL], 12),
+        ("depot-fourth", [DEPOT, GROW, FILL, "(grow)", LOCAL], 14),
+        ("depot-behind-dealer", [DEALER, "(grow)", DEPOT, LOCAL], 13),
+        ("dealer-behind-depot", [DEPOT, GROW, DEALER, GROW], 13),
+        ("default-then-dealer", [GROW, LOCAL, DEALER, "(grow)", FILL], 14),
+        ("behind-plant", [PLANT, LOCAL, DEPOT, FILL, LOCAL], 14),
+        ("back-to-depot", [DEALER, "(grow)", PLANT, LOCAL, DEPOT, GROW, LOCAL], 16),
+        ("again", [DEALER, "(grow)", DEALER, "(fill)", FILL], 14),
+        ("first-of-two", [DEALER, GROW, LOCAL], 11),
+        ("plant-too-late", [DEALER, LOCAL, PLANT, LOCAL], 11),
+        ("then-nonsense", [DEALER, GROW, "(nonsense)"], 11),
+        ("then-wild", [DEALER, GROW, WILD_PASSES["fill-rounds"]], 11),
+        ("then-17", [DEALER, GROW] + PASSES * 16, 11),
+        ("then-end", [DEALER, GROW, DEALER], 11),
+        ("then-label", [DEPOT, LOCAL, "(label 2 (5 5))"], 11),
+    ):
+        yield f"as-10-{name}", text(FRONT + lines), refused(10, line)
+    yield "as-10-then-no-lf", text(FRONT + [DEALER, GROW]) + b"(grow)", refused(10, 11)
+    yield "as-10-no-lf", text(FRONT + [DEALER]) + GROW.encode(), refused(1, 11)
+    yield "as-doubled-then-10", text(FRONT[:8] + ["(label 0 (5 5))", DEALER, GROW]), refused(6, 9)
+    yield "as-wild-then-10", text(FRONT + [WILD_PASSES["grow-search"], DEALER, GROW]), refused(3, 10)
+    # Each dealer's line with a depot's or the plant's in its place.
+    lines = [LOCAL, DEALER, "(grow)", PLANT, GROW, DEALER, "(fill)", "(grow)", DEPOT, FILL, DEALER, "(fill)"]
+    for first in ROLES:
+        for second in ROLES:
+            for third in ROLES:
+                lines[1], lines[5], lines[10] = first, second, third
+                name = "-".join(role[4:-1] for role in (first, second, third))
+                yield f"as-in-place-{name}", text(FRONT + lines), told(*lines)
+    bare = [line for line in lines if not line.startswith("(as ")]
+    yield "as-in-place-none", text(FRONT + bare), told(*lines)
+
+
+def almost_as_lines():
+    """Lines that are nearly as lines, before a bare grow: 1 at their own line."""
+    for name, line in (
+        ("upper", "(as Dealer)"), ("upper-as", "(As dealer)"), ("all-upper", "(AS DEALER)"), ("two-spaces", "(as  dealer)"), ("space-inside", "(as dealer )"),
+        ("space-first", "( as dealer)"), ("space-behind", "(as dealer) "), ("space-before", " (as dealer)"), ("nothing", "(as)"), ("nothing-space", "(as )"),
+        ("owner", "(as owner)"), ("number", "(as 1)"), ("zero", "(as 0)"), ("two", "(as dealer depot)"), ("two-same", "(as plant plant)"), ("plural", "(as dealers)"),
+        ("short", "(as deale)"), ("depo", "(as depo)"), ("depots", "(as depots)"), ("plan", "(as plan)"), ("plants", "(as plants)"), ("mixed", "(as plantdealer)"),
+        ("cr", "(as dealer)\r"), ("tab", "(as\tdealer)"), ("tab-behind", "(as dealer)\t"), ("nul", "(as dealer\0)"), ("nul-behind", "(as dealer)\0"),
+        ("bracket", "(as dealer"), ("bracket-more", "(as dealer))"), ("bracket-before", "((as dealer)"), ("no-brackets", "as dealer"), ("inner", "(as (dealer))"),
+        ("joined", "(asdealer)"), ("no-word", "(dealer)"), ("role", "(role dealer)"), ("ash", "(ash dealer)"), ("a", "(a dealer)"), ("pass-behind", "(as dealer)(grow)"),
+        ("pass-inside", "(as dealer (grow))"), ("high-byte", "(as plan\u0163)"), ("empty", "()"),
+    ):
+        yield f"as-form-{name}", text(FRONT + [line, "(grow)"]), refused(1, 10)
+        yield f"as-form-{name}-later", text(FRONT + [PLANT, LOCAL, line, "(grow)"]), refused(1, 12)
+    yield "as-form-long", text(FRONT + ["(as " + "dealer" * 2000 + ")", "(grow)"]), refused(1, 10)
+    yield "as-form-crlf", "\r\n".join(ROLED).encode() + b"\r\n", refused(1, 1)
+    # Every truncation. Whole are the heading, each line behind it, and each pass behind an as line.
+    whole_to = (4, 5, 6, 7, 8, 9, 11, 13, 15)
+    passes = ["(grow)", FILL, LOCAL]
+    for size in range(len(text(ROLED))):
+        cut = text(ROLED)[:size]
+        number = cut.count(b"\n")
+        if cut.endswith(b"\n") and number in whole_to:
+            answer = told(*passes[: max(number - 9, 0) // 2]) if number > 8 else None
+        else:
+            answer = refused(1, number + 1)
+        yield f"as-cut-{size}", cut, answer
+
+
+def roles_and_joins():
+    """10 and 1 come before 8, 9 and 4 of the join, which come after all lines are read."""
+    eight, nine, four = (ONE, [(1, 1, 0)]), (TWO, [(0, 0, 0), (1, 2, 0)]), ([(0, 63, 0)], TWO)
+    for name, sets, lines, number, line in (
+        ("8", eight, [DEALER, "(grow)"], 8, 9),
+        ("10-before-8", eight, [DEALER, GROW], 10, 12),
+        ("1-before-8", eight, [DEALER], 1, 12),
+        ("1-before-8-twice", eight, [DEALER, PLANT, LOCAL], 1, 12),
+        ("2-before-8", eight, [DEALER] + PASSES * 17, 2, 28),
+        ("3-before-8", eight, [DEPOT, WILD_PASSES["local-depth"]], 3, 12),
+        ("8-empty", ([], []), [DEPOT, FILL], 8, 8),
+        ("10-before-8-empty", ([], []), [DEALER, FILL], 10, 10),
+        ("8-all", eight, [DEALER, "(grow)", DEPOT, FILL, PLANT, LOCAL], 8, 9),
+        ("10-before-8-last", eight, [DEALER, "(grow)", DEPOT, FILL, DEALER, LOCAL], 10, 16),
+        ("9", nine, [DEPOT, GROW], 9, 10),
+        ("10-before-9", nine, [DEALER, LOCAL], 10, 14),
+        ("1-before-9", nine, [PLANT], 1, 14),
+        ("4", four, [PLANT, LOCAL], 4, 9),
+        ("10-before-4", four, [DEPOT, LOCAL], 10, 13),
+        ("1-before-4", four, [PLANT, "(patch)"], 1, 13),
+    ):
+        yield f"as-join-{name}", patched(*sets, lines), refused(number, line)
+    joined = (ONE, [(0, 5, -3), (1, 6, -3)])
+    yield "as-joined", patched(*joined, [DEALER, "(grow)", DEPOT, FILL, PLANT, LOCAL]), told("(grow)", FILL, LOCAL)
+    yield "as-joined-10", patched(*joined, [DEALER, "(grow)", FILL]), refused(10, 14)
+
+
+def in_place_of_roles(data):
+    """02, 6/14: the same frame with each dealer's line in turn, and with all of them,
+    a depot's or the plant's, and without any as line. Where it is accepted, these are,
+    with the same result."""
+    parts = data.split(text([DEALER]))
+    for role in (DEPOT, PLANT):
+        for k in range(1, len(parts)):
+            yield text([DEALER]).join(parts[:k]) + text([role]) + text([DEALER]).join(parts[k:])
+        if len(parts) > 2:
+            yield text([role]).join(parts)
+    yield b"".join(line for line in data.splitlines(keepends=True) if not line.startswith(b"(as "))
+
+
+def roles():
+    """All of these, each with an answer by hand, but for the shortest truncations."""
+    for family in (who_may_run(), order_of_roles(), behind_as_lines(), misplaced_as_lines(), roles_that_hold(), almost_as_lines(), roles_and_joins()):
+        yield from family
+
+
+# Those that the gate replays (store_cases), without "as-".
+STORED_ROLES = """
+dealer-grow dealer-fill dealer-full-grow dealer-full-fill dealer-local depot-grow depot-fill depot-full-grow depot-full-fill depot-local
+plant-grow plant-fill plant-full-grow plant-full-fill plant-local each hold-three hold-back in-place-depot-plant-dealer 10-third 10-depot-fourth
+10-default-then-dealer 10-then-nonsense wild-dealer-grow-factor wild-dealer-fill-rounds wild-dealer-local-depth wild-depot-local-residual
+bent-dealer-bare-local bent-dealer-grow-two bent-depot-local-bracket 17 17-not-its-own 17-wild-not-its-own 17-bent-not-its-own 17-nothing 17-as
+16-passes dealer-then-corner dealer-then-label depot-then-shade plant-then-patch dealer-then-dealer dealer-then-plant depot-then-end
+plant-then-half behind-band behind-shades-local before-corners bare-then-label in-heading-4 form-upper form-two-spaces form-nothing form-owner
+form-cr join-8 join-10-before-8 join-10-before-9 join-10-before-4 joined
+""".split()
+
+
 # ---- whole frames
 
 
@@ -634,12 +955,13 @@ def whole():
         yield f"example-cut-{size}", text(EXAMPLE)[:size], None
 
 
-def damaged(seed, count, shaded=generate.SHADED, patched=generate.PATCHED):
-    """Good frames with bytes changed, left out, doubled or moved; `shaded` is
-    the share of them with shades, `patched` that of those with a patch line."""
+def damaged(seed, count, shaded=generate.SHADED, patched=generate.PATCHED, roled=generate.ROLED):
+    """Good frames with bytes changed, left out, doubled or moved; `shaded` is the
+    share of them with shades, `patched` that of those with a patch line, `roled`
+    that of those with as lines."""
     rng = random.Random(seed)
-    good = [text(EXAMPLE)] * (shaded < 1) + [text(SHADED)] * (shaded > 0) + [text(PATCHED)] * (patched > 0)
-    good += [data for _, data in generate.frames(seed, 20, shaded=shaded, patched=patched)]
+    good = [text(EXAMPLE)] * (shaded < 1) + [text(SHADED)] * (shaded > 0) + [text(PATCHED)] * (patched > 0) + [text(ROLED)] * (roled > 0)
+    good += [data for _, data in generate.frames(seed, 20, shaded=shaded, patched=patched, roled=roled)]
     good = [data for data in good if len(data) < 4000]
     for number in range(count):
         data = bytearray(rng.choice(good))
@@ -681,7 +1003,7 @@ def left_after_lines(result):
 def long_results(seed):
     """Results longer than the buffer, some with a line that ends where exactly 128 or 127 bytes are left."""
     wanted = {LEAST, LEAST - 1}
-    for number, (_, data) in enumerate(generate.frames(seed, 4000, "dense", shaded=0, patched=0)):
+    for number, (_, data) in enumerate(generate.frames(seed, 4000, "dense", shaded=0, patched=0, roled=0)):
         result = reference.result(data)
         if len(result) <= BUFFER:
             continue
@@ -695,12 +1017,14 @@ def long_results(seed):
 
 
 def cases():
-    for family in (whole(), bent(), overfull(), wild(), labels(), damaged(1, 300, 0, 0), random_bytes(1, 60), long_results(1)):
+    for family in (whole(), bent(), overfull(), wild(), labels(), damaged(1, 300, 0, 0, 0), random_bytes(1, 60), long_results(1)):
         yield from family
-    for family in (whole_shades(), bent_shades(), misplaced_shades(), strange_shades(), damaged(2, 150, 1, 0), bare_grow()):
+    for family in (whole_shades(), bent_shades(), misplaced_shades(), strange_shades(), damaged(2, 150, 1, 0, 0), bare_grow()):
         yield from family
-    for family in (joined_patches(), unjoined_patches(), strange_patches(), misplaced_patches(), large_patches(), damaged(3, 150, patched=1)):
+    for family in (joined_patches(), unjoined_patches(), strange_patches(), misplaced_patches(), large_patches(), damaged(3, 150, patched=1, roled=0)):
         yield from family
+    yield from roles()
+    yield from damaged(4, 150, roled=1)
 
 
 def checked():

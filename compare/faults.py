@@ -76,6 +76,7 @@ EXAMPLE_ANSWER = b"""(result 1)
 
 SHADED = cases.text(cases.SHADED)  # the same with shades, and with local
 PATCHED = cases.text(cases.PATCHED)  # that with the labels in two sets
+ROLED = cases.text(cases.ROLED)  # 01's example with a pass of each role
 
 NOT_READ = b"recover: standard input cannot be read\n"
 NOT_WRITTEN = b"recover: standard output cannot be written\n"
@@ -519,7 +520,7 @@ class Faults:
             run(f"a failure after {at} bytes, then the end", EXAMPLE, front + "e z ", failed=True)
             run(f"a failure after {at} bytes, then the rest", EXAMPLE, front + "e ", failed=True)
             run(f"the end after {at} bytes, then the rest", EXAMPLE, front + "z ", ends=at)
-        for name, data in (("with shades", SHADED), ("with two sets", PATCHED)):
+        for name, data in (("with shades", SHADED), ("with two sets", PATCHED), ("with as lines", ROLED)):
             at = 0
             for line in data.splitlines(keepends=True):
                 at += len(line)

@@ -17,6 +17,8 @@ Every text comes from its own seed. Kinds of text:
     shades      a frame with shade lines put in, doubled, moved, spoilt
     patches     a frame with its labels put into two sets, with labels of either
                 changed or left out, with the patch line doubled, moved, spoilt
+    roles       a frame with as lines put in, changed, doubled, moved, spoilt,
+                with passes made bare or written out, and put in behind them
     cut         a frame that ends early
     long        texts of 65,535 bytes and more
     load        up to 1,024 corners and 16 passes with many rounds
@@ -25,7 +27,7 @@ Every text comes from its own seed. Kinds of text:
 An answer is right if the program ends within the limit with status 0, writes
 nothing to standard error, and writes to standard output either
 
-    one line (refused N L): N from 1 to 6, 8 or 9, L from 1 to one more than the text has
+    one line (refused N L): N from 1 to 6 or 8 to 10, L from 1 to one more than the text has
     lines, or (refused 2 0) where and only where there are over 65,536 bytes; and
     the refusal is the one that the reader of reference.py gives; or
 
@@ -83,6 +85,9 @@ WHOLES = [
 FLOAT = re.compile(rb"\b[0-9a-f]{8}\b")
 WHOLE = re.compile(rb"(?<=[ (])-?[0-9]{1,5}(?=[ )])")
 LABEL = re.compile(rb"\(label (-?[0-9]{1,5}) \((-?[0-9]{1,5}) (-?[0-9]{1,5})\)\)")
+PASS = re.compile(rb"\((?:grow|fill|local)[ )]")
+WRITTEN = [line.encode() for line in (cases.GROW, cases.FILL, cases.LOCAL)]
+WILD = [line.encode() for line in cases.WILD_PASSES.values()]
 SIZES = [1, 1, 1, 2, 5, 20]
 
 
@@ -238,6 +243,37 @@ class Texts:
                 lines[patch[0]] = line[:at] + rng.choice([b"", b" ", b")", b"(", b"1", b"\0", b"s"]) + line[at + rng.randrange(2) :]
         return b"".join(line + b"\n" for line in lines)
 
+    def roles(self, rng):
+        lines = self.frame(rng).splitlines()
+        for _ in range(rng.choice(SIZES)):
+            passes = [k for k, line in enumerate(lines) if PASS.match(line)]
+            roles = [k for k, line in enumerate(lines) if line.startswith(b"(as")]
+            line = rng.choice([b"(as dealer)", b"(as depot)", b"(as plant)"])
+            way = rng.randrange(12)
+            if way < 4:  # before a pass, now and then elsewhere
+                at = rng.choice(passes) if passes and rng.random() < 0.9 else rng.randrange(len(lines) + 1)
+                lines.insert(at, line)
+            elif way == 4 and roles:
+                lines[rng.choice(roles)] = line
+            elif way == 5 and roles:
+                gone = lines.pop(rng.choice(roles))
+                if rng.random() < 0.5:
+                    lines.insert(rng.choice(passes or [len(lines)]), gone)
+            elif way == 6 and roles:
+                at = rng.choice(roles)
+                lines.insert(at, lines[at])
+            elif way == 7 and roles:
+                at, k = rng.choice(roles), rng.randrange(11)
+                lines[at] = lines[at][:k] + rng.choice([b"", b" ", b")", b"(", b"1", b"\0", b"s"]) + lines[at][k + rng.randrange(2) :]
+            elif way < 10 and passes:
+                at = rng.choice(passes)
+                lines[at] = rng.choice(([b"(grow)", b"(fill)", b"(local)"] * 2 + WRITTEN) if rng.random() < 0.8 else WILD)
+            else:
+                at = rng.choice(passes) + 1 if passes else len(lines)
+                new = rng.choice([b"(grow)", b"(fill)", *WRITTEN])
+                lines[at:at] = [line] * rng.randrange(2) + [new] * rng.choice([1, 1, 1, 1, 13])
+        return b"".join(line + b"\n" for line in lines)
+
     def cut(self, rng):
         data = self.frame(rng)
         return data[: rng.randrange(len(data) + 1)]
@@ -306,6 +342,7 @@ KINDS = {  # (how it is made, how often)
     "numbers": (Texts.numbers, 25),
     "shades": (Texts.shades, 10),
     "patches": (Texts.patches, 10),
+    "roles": (Texts.roles, 10),
     "cut": (Texts.cut, 6),
     "long": (Texts.long, 2),
     "load": (Texts.load, 0.1),
@@ -315,7 +352,7 @@ KINDS = {  # (how it is made, how often)
 
 # ---- Answers --------------------------------------------------------------
 
-REFUSAL = re.compile(r"\(refused ([1-689]) (0|[1-9][0-9]*)\)\n")
+REFUSAL = re.compile(r"\(refused ([1-689]|10) (0|[1-9][0-9]*)\)\n")
 N, W = r"(0|[1-9][0-9]*)", r"(0|-?[1-9][0-9]*)"
 PASS_LINES = {
     "grow": re.compile(rf"\(grow {N} {N} {N} {N} (yes|no)\)"),
@@ -534,7 +571,7 @@ def keep(folder, name, data):
 
 
 def say(tally, options, began):
-    numbers = [0, 1, 2, 3, 4, 5, 6, 8, 9]
+    numbers = [0, 1, 2, 3, 4, 5, 6, 8, 9, 10]
     rows = [["text", "results"] + [f"refused {n}" for n in numbers[1:]]]
     for kind in KINDS:
         rows.append([kind] + [tally.answers[kind, n] for n in numbers])

@@ -5,9 +5,11 @@
     generate.py --seed S --count N --only FAMILY    prints them
     --shaded SHARE                                  of the frames have shades
     --patched SHARE                                 of the frames have a patch line
+    --roled SHARE                                   of the frames have as lines
 
 Every frame is an accepted one, but some of those with a patch line, whose two
-sets are not joined. Families, each a function below:
+sets are not joined, and some of those with as lines. Families, each a function
+below:
 
     panel       a panel in perspective: noise, missing and spurious corners, a
                 crept end row, labels as a block, a ring, patches or scattered
@@ -46,6 +48,14 @@ little, or up to the rim of the sheet. Joined, they are the labels of the frame
 without a patch line. Their names say "patched". Some of these are spoilt: no
 corner in both, a label off by one, two exchanged, a corner on a cell that
 another holds, a label that the shift takes off the sheet; most of them are
+refused then.
+
+Some of the frames, by a draw of their own that comes last, have as lines (02,
+6/14): at the first pass, between passes, one or several, of roles that may run
+what stands behind them. For the dealer's sake some of their passes are made
+bare, or bare ones are put in, or put behind them. Their names say "roled". Some of these are spoilt:
+a role that may not run its pass, one that holds on to such a pass, a dealer's
+bare pass written out, an as line at the end, two in a row; most of them are
 refused then.
 """
 
@@ -89,6 +99,7 @@ class Draft:
         self.second = None  # the labels behind a patch line, in their own cells
         self.shades = []  # (corner, kind)
         self.passes = []  # (kind, numbers or None)
+        self.roles = []  # (number of a pass, role): as lines right before it
 
     def text(self):
         h = ref.to_hex
@@ -107,7 +118,9 @@ class Draft:
             lines.append("(patch)")
             lines += [f"(label {n} ({i} {j}))" for n, (i, j) in self.second]
         lines += [f"(shade {n} {kind})" for n, kind in self.shades]
-        lines += [pass_line(kind, numbers) for kind, numbers in self.passes]
+        for k in range(len(self.passes) + 1):  # at the last number, the end
+            lines += [f"(as {role})" for before, role in self.roles if before == k]
+            lines += [pass_line(*one) for one in self.passes[k : k + 1]]
         return ("\n".join(lines) + "\n").encode()
 
 
@@ -930,6 +943,112 @@ def in_patches(own, draft, family):
     return two, family if two.second is None else f"patched_{family}"
 
 
+# ---- Roles ----------------------------------------------------------------
+
+ROLES = ["dealer", "depot", "plant"]
+MOST_PASSES = 16
+
+
+def runners(kind, numbers):
+    """The roles that may run a pass."""
+    return [role for role in ROLES if ref.may_run(role, kind, numbers is None)]
+
+
+def with_bare_passes(rng, draft, behind):
+    """Some passes made bare, or bare ones put in; with `behind` no pass is
+    changed, and new ones stand behind all others."""
+    draft.passes = list(draft.passes)
+    way = rng.choice(["as they are"] * 3 + ["made bare"] * 2 + ["put in"] * 3 + ["all bare"])
+    if way in ("made bare", "all bare") and not behind:
+        share = 1.0 if way == "all bare" else rng.choice([0.3, 0.7])
+        for k, (kind, _) in enumerate(draft.passes):
+            if kind != "local" and rng.random() < share:
+                draft.passes[k] = (kind, None)
+    if way == "all bare" and not behind:
+        draft.passes = [one for one in draft.passes if one[1] is None] or [("grow", None)]
+    elif way == "put in" or behind and way != "as they are":
+        for _ in range(rng.choice([1, 1, 2, 4])):
+            if len(draft.passes) < MOST_PASSES:
+                at = len(draft.passes) if behind else rng.randint(0, len(draft.passes))
+                draft.passes.insert(at, (rng.choice(["grow", "fill"]), None))
+
+
+def some_roles(rng, passes):
+    """As lines, at least one, of roles that may run what stands behind them."""
+    often = rng.choice([0.1, 0.3, 0.3, 0.6, 1.0])
+    first = rng.randrange(len(passes)) if rng.random() < 0.5 else 0
+    roles, role = [], "plant"
+    for k, one in enumerate(passes):
+        may = runners(*one)
+        if role not in may or k == first or k > first and rng.random() < often:
+            role = rng.choice([*may, may[0]])  # the least of them more often
+            roles.append((k, role))
+    return roles
+
+
+def spoil_roles(rng, draft, way):
+    """Spoils the as lines of a draft; leaves them where the way is not open."""
+    barred = [(k, role) for k, one in enumerate(draft.passes) for role in ROLES if role not in runners(*one)]
+    if way == "not its own" and barred:
+        k, role = rng.choice(barred)
+        draft.roles = sorted([one for one in draft.roles if one[0] != k] + [(k, role)])
+    elif way == "holds on" and barred:  # over passes that it may run, to one that it may not
+        k, role = rng.choice([one for one in barred if role_before(draft, *one) < one[0]] or barred)
+        first = rng.randint(role_before(draft, k, role), k)
+        draft.roles = sorted([one for one in draft.roles if not first <= one[0] <= k] + [(first, role)])
+    elif way == "written out":  # a dealer's bare pass, its numbers as they are
+        named = [(k, role) for k, role in draft.roles if role == "dealer" and k < len(draft.passes) and draft.passes[k][1] is None]
+        if named:
+            k, _ = rng.choice(named)
+            kind, _ = draft.passes[k]
+            draft.passes[k] = (kind, ref.BARE[kind])
+    elif way == "at the end":
+        draft.roles = draft.roles + [(len(draft.passes), rng.choice(ROLES))]
+    elif way == "two" and draft.roles:
+        at = rng.randrange(len(draft.roles))
+        k, role = draft.roles[at]
+        draft.roles = draft.roles[:at] + [(k, rng.choice([role, *ROLES]))] + draft.roles[at:]
+
+
+def role_before(draft, k, role):
+    """The first of the passes right before pass k that the role may run, or k."""
+    while k > 0 and role in runners(*draft.passes[k - 1]):
+        k -= 1
+    return k
+
+
+ROLED = 0.25  # the share of frames with as lines
+SPOILT_ROLES = 0.2  # of those the share that is spoilt
+
+
+def caster(seed, roled):
+    """The draws for a frame's as lines, or None where it is to have none."""
+    own = random.Random(f"roles {seed}")
+    return own if own.random() < roled else None
+
+
+OWN_NUMBERS = ("knife", "deciding", "horizon", "degenerate")  # families whose passes are made for their corners
+
+
+def in_roles(own, draft, family, behind=False):
+    """The draft with as lines, by the draws of `own`, if any, and the family's
+    name then. With `behind`, and in some families, all its passes stay, and the
+    first stay first."""
+    if own is None:
+        return draft, family
+    acted = copy.copy(draft)
+    with_bare_passes(own, acted, behind or family.endswith(OWN_NUMBERS))
+    if acted.passes:
+        acted.roles = some_roles(own, acted.passes)
+    if own.random() < SPOILT_ROLES:
+        ways = ["not its own"] * 3 + ["holds on"] * 3 + ["written out", "at the end", "two", "two"]
+        for way in own.sample(ways, own.choice([1, 1, 2])):
+            spoil_roles(own, acted, way)
+    if not acted.roles or len(acted.text()) > MOST_BYTES:
+        return draft, family
+    return acted, f"roled_{family}"
+
+
 # ---- Deciding values ------------------------------------------------------
 
 
@@ -1026,11 +1145,11 @@ def drawn(rng, own, family):
     return shade(own, make(rng)), f"shaded_{family}"
 
 
-def frames(seed, count, only=None, share=(0, 1), shaded=SHADED, patched=PATCHED):
+def frames(seed, count, only=None, share=(0, 1), shaded=SHADED, patched=PATCHED, roled=ROLED):
     """Yields (name, bytes), each frame from its own seed. A share (K, N) is
     every Nth frame from number K on. With `shaded` 0 no frame has a shade, with
-    `patched` 0 none a patch line; the frames without one are the same whatever
-    it is."""
+    `patched` 0 none a patch line, with `roled` 0 none an as line; the frames
+    without one are the same whatever it is."""
     names = [only] if only else list(FAMILIES)
     weights = [FAMILIES[name][1] if name in FAMILIES else 1 for name in names]
     for k in range(share[0], count, share[1]):
@@ -1038,10 +1157,11 @@ def frames(seed, count, only=None, share=(0, 1), shaded=SHADED, patched=PATCHED)
         family = rng.choices(names, weights)[0]
         draft, family = drawn(rng, shader(f"{seed} {k}", shaded), family)
         draft, family = in_patches(patcher(f"{seed} {k}", patched), draft, family)
+        draft, family = in_roles(caster(f"{seed} {k}", roled), draft, family)
         data = draft.text()
         try:
             ref.read(data)
-        except ref.NotJoined:
+        except (ref.NotJoined, ref.NotRun):
             pass  # a spoilt one
         except ref.Refused as refused:
             raise SystemExit(f"frame {k} ({family}) of seed {seed}: {refused}")
@@ -1055,11 +1175,12 @@ def main():
     parser.add_argument("--only", choices=list(FAMILIES) + list(SHADED_FAMILIES))
     parser.add_argument("--shaded", type=float, default=SHADED)
     parser.add_argument("--patched", type=float, default=PATCHED)
+    parser.add_argument("--roled", type=float, default=ROLED)
     parser.add_argument("--out")
     options = parser.parse_args()
     if options.out:
         os.makedirs(options.out, exist_ok=True)
-    for name, data in frames(options.seed, options.count, options.only, shaded=options.shaded, patched=options.patched):
+    for name, data in frames(options.seed, options.count, options.only, shaded=options.shaded, patched=options.patched, roled=options.roled):
         if options.out:
             with open(os.path.join(options.out, name + ".frame"), "wb") as file:
                 file.write(data)

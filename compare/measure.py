@@ -95,7 +95,7 @@ def say(number, wrong):
 def frame_supports(seed, count):
     """The distinct supports of every local pass: cells and corners."""
     seen = set()
-    for _, data in generate.frames(seed, count, shaded=0, patched=0):
+    for _, data in generate.frames(seed, count, shaded=0, patched=0, roled=0):
         frame = ref.read(data)
         sheet = frame.given()
         for number in range(len(frame.passes)):

@@ -21,6 +21,8 @@ Some frames have shades, as in generate.py: a corner that a cell passes over for
 its kind then stands at the radius too, and local's unmatched count decides. Some
 have their labels in two sets, as there: they are split, and some spoilt, when all
 numbers are moved, so that those that are joined decide as the whole frame does.
+Some have as lines, put in last: passes that are moved stay as they are, and bare
+ones are put behind them.
 """
 
 import argparse
@@ -192,11 +194,11 @@ def move(rng, frame):
     return [m for m in moves if m]
 
 
-def frames(seed, count, only=None, share=(0, 1), shaded=generate.SHADED, patched=generate.PATCHED):
+def frames(seed, count, only=None, share=(0, 1), shaded=generate.SHADED, patched=generate.PATCHED, roled=generate.ROLED):
     """Yields (name, bytes, moves, fits), each frame from its own seed; at least
     one number of each is moved. A move is (parameter, units, kind of pass),
-    fits are those that reference.py has worked out. `share`, `shaded` and
-    `patched` as in generate.py."""
+    fits are those that reference.py has worked out. `share`, `shaded`, `patched`
+    and `roled` as in generate.py."""
     names = [only] if only else list(FAMILIES)
     weights = [FAMILIES.get(name, 1) for name in names]
     for k in range(share[0], count, share[1]):
@@ -213,6 +215,7 @@ def frames(seed, count, only=None, share=(0, 1), shaded=generate.SHADED, patched
             moves = move(rng, frame)
         draft.band, draft.passes = frame.band, frame.passes
         draft, family = generate.in_patches(generate.patcher(f"moved {seed} {k}", patched), draft, family)
+        draft, family = generate.in_roles(generate.caster(f"moved {seed} {k}", roled), draft, family, True)
         yield f"{seed}-{k}-{family}", draft.text(), moves, frame.fits
 
 
@@ -223,8 +226,10 @@ def main():
     parser.add_argument("--only", choices=list(FAMILIES) + list(generate.SHADED_FAMILIES))
     parser.add_argument("--shaded", type=float, default=generate.SHADED)
     parser.add_argument("--patched", type=float, default=generate.PATCHED)
+    parser.add_argument("--roled", type=float, default=generate.ROLED)
     options = parser.parse_args()
-    for name, data, moves, _ in frames(options.seed, options.count, options.only, shaded=options.shaded, patched=options.patched):
+    shares = {"shaded": options.shaded, "patched": options.patched, "roled": options.roled}
+    for name, data, moves, _ in frames(options.seed, options.count, options.only, **shares):
         print(f"# {name} {moves}\n{data.decode()}")
 
 

@@ -32,8 +32,10 @@ decides nothing") are put to the frame program, crates/recover/out/recover, and 
 frames with their corner lines in K other orders, the labels of both sets and the
 shades renumbered: their results differ only in the corner numbers of the cell
 lines, or both have the same refusal, number and line. Some are not joined. How
-many answers change if the second set is not renumbered is told. With --model the
-first order's answer is also compared with that of reference.py.
+many answers change if the second set is not renumbered is told. Some of these
+frames, and some without a patch line, have as lines (02, 6/14), some of which
+are refused. With --model the first order's answer is also compared with that of
+reference.py.
 
 Ends with status 1 if a compared call or frame differs, if a call that was made
 to be refused is answered otherwise, or if the smallest pairs do not show what
@@ -529,11 +531,13 @@ class Run:
                 return
 
 
-# ---- Frames with a patch line ---------------------------------------------
+# ---- Frames with a patch line, or with as lines ---------------------------
+
+ROLED = 0.3  # the share of frames with as lines among those with two sets
 
 
-def a_patched_draft(rng):
-    """A frame with two sets, every factor above 1; or None."""
+def a_whole_draft(rng):
+    """A frame with every factor above 1."""
     family, draft = a_draft(rng)
     passes = []
     for kind, numbers in draft.passes:
@@ -541,6 +545,12 @@ def a_patched_draft(rng):
             numbers = (numbers[0], a_factor(rng), *numbers[2:])
         passes.append((kind, numbers))
     draft.passes = passes
+    return family, draft
+
+
+def a_patched_draft(rng):
+    """Such a frame with two sets; or None."""
+    family, draft = a_whole_draft(rng)
     draft = generate.split(rng, draft)
     if rng.random() < 0.35:
         draft = generate.spoil(rng, draft)
@@ -554,7 +564,7 @@ def reordered(draft, order, second=True):
     other.corners = [draft.corners[old] for old in order]
     other.labels = [(line[n], cell) for n, cell in draft.labels]
     other.shades = [(line[n], kind) for n, kind in draft.shades]
-    if second:
+    if second and draft.second is not None:
         other.second = [(line[n], cell) for n, cell in draft.second]
     return other
 
@@ -569,19 +579,25 @@ def paired(text, pairing):
     return re.sub(r"(?m)^(\(cell \(\S+ \S+\)) (\d+)\)$", lambda cell: f"{cell[1]} {pairing[int(cell[2])]})", text)
 
 
+def counts(numbers):
+    return ", ".join(f"{n} {what}" for what, n in sorted(numbers.items()))
+
+
 class Frames:
-    """Frames with a patch line, and the same in other orders."""
+    """Frames with a patch line, or with as lines, and the same in other orders."""
 
     def __init__(self, options):
         self.options = options
-        self.answers = Counter()  # joined, or the refusal's number
+        self.answers = Counter()  # accepted, or refused and the number
+        self.roled = Counter()  # the same of those with as lines
         self.compared = Counter()
-        self.wrong = self.modelled = self.in_place = 0
+        self.wrong = self.modelled = self.in_place = self.patched = 0
 
     def frame(self, name, draft, rng):
         first = recovered(draft)
-        what = first.strip("()\n").split(" ")[1] if first.startswith("(refused") else "joined"
+        what = " ".join(first.strip("()\n").split(" ")[:2]) if first.startswith("(refused") else "accepted"
         self.answers[what] += 1
+        self.roled[what] += bool(draft.roles)
         if self.options.model:
             self.modelled += 1
             if first != ref.result(draft.text()):
@@ -593,7 +609,8 @@ class Frames:
             self.compared[what] += 1
             if paired(recovered(other), order) != first:
                 self.differs(name, "differs in another order", [draft, other])
-            if number == 0:
+            if number == 0 and draft.second is not None:
+                self.patched += 1
                 in_place = recovered(reordered(draft, order, False))
                 self.in_place += paired(in_place, order) != first
 
@@ -607,15 +624,20 @@ class Frames:
                     file.write(draft.text())
 
     def run(self):
+        seed = self.options.seed
         for k in range(self.options.frames):
-            rng = random.Random(f"permute patches {self.options.seed} {k}")
+            rng = random.Random(f"permute patches {seed} {k}")
             family, draft = a_patched_draft(rng)
             if draft is not None:
-                self.frame(f"{self.options.seed}-{k}-patched_{family}", draft, rng)
-        answers = ", ".join(f"{n} {what if what == 'joined' else 'refused ' + what}" for what, n in sorted(self.answers.items()))
-        compared = ", ".join(f"{n} {what if what == 'joined' else 'refused ' + what}" for what, n in sorted(self.compared.items()))
-        print(f"frames with two sets: {answers}; compared with another order: {sum(self.compared.values())} ({compared}); wrong: {self.wrong}")
-        print(f"with the second set not renumbered while the corners turn: {self.in_place} of {sum(self.answers.values())} frames differ")
+                draft, family = generate.in_roles(generate.caster(f"permute {seed} {k}", ROLED), draft, f"patched_{family}")
+                self.frame(f"{seed}-{k}-{family}", draft, rng)
+            if rng.random() < ROLED:
+                family, draft = a_whole_draft(rng)
+                draft, family = generate.in_roles(rng, draft, family)
+                self.frame(f"{seed}-{k}-{family}", draft, rng)
+        print(f"frames with two sets or as lines: {counts(self.answers)}; of these with as lines: {counts(self.roled)}")
+        print(f"compared with another order: {sum(self.compared.values())} ({counts(self.compared)}); wrong: {self.wrong}")
+        print(f"with the second set not renumbered while the corners turn: {self.in_place} of {self.patched} frames differ")
         if self.modelled:
             print(f"frames compared with reference.py: {self.modelled}")
 
@@ -677,11 +699,11 @@ def main():
         run.tally.case(family, case)
         run.case(f"{options.seed}-{k}-{family}", case, rng)
     run.tally.print(options.count, options.shuffles)
-    patched = Frames(options)
-    patched.run()
+    frames = Frames(options)
+    frames.run()
     shown = [needed(kind) for kind in ("grow", "fill", "local")]
     print(f"{time.time() - began:.0f} s")
-    return 1 if run.tally.wrong or patched.wrong or not all(shown) else 0
+    return 1 if run.tally.wrong or frames.wrong or not all(shown) else 0
 
 
 if __name__ == "__main__":

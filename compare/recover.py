@@ -4,10 +4,13 @@
     recover.py                     every case of cases.py
     recover.py --frames N          and N generated frames (generate.py)
     recover.py --damaged N         and N damaged or random texts
+    --roled SHARE                  of the generated frames have as lines
 
 The expected answers are 01's table by hand where cases.py has them, and else
-those of reference.py. Fails at the first frame with another answer, or if a
-run does not end in time; says how long the longest took.
+those of reference.py. Each accepted generated frame with as lines (02, 6/14) is
+run again with a depot's and the plant's line in each dealer's place, and without
+as lines, and the first answer is expected again. Fails at the first frame with
+another answer, or if a run does not end in time; says how long the longest took.
 """
 
 import argparse
@@ -51,6 +54,7 @@ def main():
     options.add_argument("--frames", type=int, default=0)
     options.add_argument("--damaged", type=int, default=0)
     options.add_argument("--seed", type=int, default=1)
+    options.add_argument("--roled", type=float, default=generate.ROLED)
     options = options.parse_args()
     if not os.path.exists(PROGRAM):
         sys.exit("recover.py: crates/recover/out/recover is missing: rt run in crates/recover builds it")
@@ -59,10 +63,15 @@ def main():
         runs.run(name, data, result)
     runs.say("cases")
     if options.frames:
-        runs = Runs()
-        for name, data in generate.frames(options.seed, options.frames):
-            runs.run(name, data, reference.result(data))
+        runs, again = Runs(), Runs()
+        for name, data in generate.frames(options.seed, options.frames, roled=options.roled):
+            result = reference.result(data)
+            runs.run(name, data, result)
+            if "roled" in name and not result.startswith("(refused"):
+                for other in cases.in_place_of_roles(data):
+                    again.run(f"{name}, other roles", other, result)
         runs.say("generated frames")
+        again.say("generated frames with other roles")
     if options.damaged:
         runs = Runs()
         half = options.damaged // 2

@@ -1,6 +1,6 @@
 #!/usr/bin/env python3
-"""An executable model of the specification (01), with requests 1/14 to 3/14
-and 5/14 of the list of requests (02), written from their text.
+"""An executable model of the specification (01), with requests 1/14 to 3/14,
+5/14 and 6/14 of the list of requests (02), written from their text.
 
     reference.py < FRAME              01's result text, or (refused number line)
     reference.py --passes < FRAME     the sheet after every pass, as text
@@ -812,6 +812,7 @@ class Frame:
         self.around = None  # the label box of the given ones
         self.shades = {}  # kind by corner, of those that have a shade
         self.passes = []  # (kind, numbers)
+        self.roles = []  # for each pass that was read, who runs it
         self.numbered = []  # (corner, x, y)
         self.fits = {}  # fits already worked out
 
@@ -840,7 +841,11 @@ class NotJoined(Refused):
     """Every line is as it should be, but the two sets are not joined."""
 
 
-BENT, OVERFULL, WILD, OFF_SHEET, STRANGER, DOUBLED, SHORT, APART, CLASH = range(1, 10)
+class NotRun(Refused):
+    """02, 6/14: behind an as line stands no pass, or the role may not run it."""
+
+
+BENT, OVERFULL, WILD, OFF_SHEET, STRANGER, DOUBLED, SHORT, APART, CLASH, NOT_YOURS = range(1, 11)
 
 _FLOAT = r"([0-9a-f]{8})"
 _WHOLE = r"(0|-?[1-9][0-9]*)"
@@ -855,6 +860,7 @@ _FORMS = {
         "label": r"\(label W \(W W\)\)",
         "patch": r"\(patch\)",
         "shade": r"\(shade W W\)",
+        "as": r"\(as (dealer|depot|plant)\)",
         "grow": r"\(grow(?: F F F)?\)",
         "fill": r"\(fill(?: F F W)?\)",
         "local": r"\(local F F W F W\)",
@@ -874,9 +880,9 @@ def _float(digits):
 
 
 _HEAD = ["frame", "cell", "axes", "band"]
-_RANK = {"corner": 0, "label": 1, "patch": 2, "shade": 4, "grow": 5, "fill": 5, "local": 5}
+_RANK = {"corner": 0, "label": 1, "patch": 2, "shade": 4, "as": 5, "grow": 5, "fill": 5, "local": 5}
 _SECOND = 3  # the rank of a label behind the patch line
-_BARE = {
+BARE = {
     "grow": (rnd(0.35), 1.5, 1.25),  # 02, 2/14: a boundary multiple of 1.25
     "fill": (rnd(0.35), 1.5, 1),
 }
@@ -890,6 +896,16 @@ _RANGES = {
     "fill": (_MULTIPLE, _FACTOR, _ROUNDS),
     "local": (_MULTIPLE, _FACTOR, _ROUNDS, _MULTIPLE, _DEPTH),
 }
+
+
+def may_run(role, kind, bare):
+    """02, 6/14: "A dealer may run bare grow and bare fill; a depot any grow and
+    fill; the plant all"."""
+    if role == "dealer":
+        return bare and kind in ("grow", "fill")
+    if role == "depot":
+        return kind in ("grow", "fill")
+    return role == "plant"
 
 
 def read(data):
@@ -913,13 +929,18 @@ def read_lines(data):
     unfinished = lines.pop()  # what stands after the last LF
     frame = Frame()
     rank = 0
+    role = "plant"  # until the first as line
+    named = False  # the line before is an as line
     for number, line in enumerate(lines, 1):
         if number <= 4:
             _read_head(frame, _HEAD[number - 1], line, number)
             continue
         kind, match = _form_of(line)
+        if named and kind not in PASSES:
+            raise NotRun(BENT, number)
         if kind is None or kind == "patch" and frame.patch is not None:
             raise Refused(BENT, number)
+        named = kind == "as"
         before = rank
         rank = _SECOND if kind == "label" and frame.patch is not None else _RANK[kind]
         if rank < before:
@@ -933,8 +954,12 @@ def read_lines(data):
             frame.sets.append([])
         elif kind == "shade":
             _read_shade(frame, match, number)
+        elif kind == "as":
+            role = match.group(1).decode()
         else:
-            _read_pass(frame, kind, match, number)
+            _read_pass(frame, role, kind, match, number)
+    if named:
+        raise NotRun(BENT, len(lines) + 1)
     if unfinished or len(lines) < 4:
         raise Refused(BENT, len(lines) + 1)
     frame.numbered = list(zip(range(len(frame.x)), frame.x, frame.y))
@@ -1006,19 +1031,21 @@ def _read_shade(frame, match, number):
     frame.shades[corner] = kind
 
 
-def _read_pass(frame, kind, match, number):
+def _read_pass(frame, role, kind, match, number):
+    """01, 2 and 3; then 02, 6/14: 10 "at the pass line, after number 3"."""
     if len(frame.passes) == 16:
         raise Refused(OVERFULL, number)
-    if match.group(1) is None:
-        frame.passes.append((kind, _BARE[kind]))
-        return
+    bare = match.group(1) is None
     values = []
-    for group, (value_of, least, most) in zip(match.groups(), _RANGES[kind]):
+    for group, (value_of, least, most) in zip(match.groups(), () if bare else _RANGES[kind]):
         value = value_of(group)
         if outside(value, least, most):
             raise Refused(WILD, number)
         values.append(value)
-    frame.passes.append((kind, tuple(values)))
+    if not may_run(role, kind, bare):
+        raise NotRun(NOT_YOURS, number)
+    frame.passes.append((kind, BARE[kind] if bare else tuple(values)))
+    frame.roles.append(role)
 
 
 def result(data):

@@ -8,6 +8,7 @@
 
     --shaded SHARE  the share of the frames that have shades (generate.py)
     --patched SHARE the share of the frames that have a patch line
+    --roled SHARE   the share of the frames that have as lines
     --bare-grow     every grow line of the generated frames is made bare
     --ours CMD      our program: a frame on standard input, every pass on
                     standard output, in the form of `reference.py --passes`;
@@ -43,6 +44,9 @@ Of a frame with a patch line whose two sets are not joined, the refusal is
 compared: ours (with --proved that of recover), reference.py's, and the one that
 the Rust side's own join gives. Where they are joined, the Rust's passes run on
 the union of that join, and those of passes_main on the union of reference.py's.
+Of a frame that is refused for its as lines, the refusal is compared likewise. In
+one that is not, all passes are run as without them: neither the Rust's passes nor
+those of passes_main know a role.
 
 01 excludes some passes from equality with the Rust. This program finds them
 itself: it runs reference.py's pass from our sheet and watches for
@@ -98,6 +102,8 @@ BEYOND = {"equal", "radius", "fit", "residual", "prediction"}
 LIMIT_OF = {"radius": "radius", "quotient": "factor", "gate": "gate"}
 LIMITS = ["radius", "factor", "1 - band", "1 + band", "gate", "least pitch"]
 JOINS = ["joined", "refused 8", "refused 9", "refused 4"]
+AS_LINES = ["accepted", "refused 10", "refused 1"]
+ROLES = ["plant", "depot", "dealer"]
 
 
 # ---- Both sides -----------------------------------------------------------
@@ -118,11 +124,11 @@ def call(command, data):
 
 
 def proved(data):
-    """A frame's passes by the proved program; where its two sets are not joined
-    no pass is run, and the answer is the frame program's."""
+    """A frame's passes by the proved program; of a refused frame no pass is run,
+    and the answer is the frame program's."""
     try:
         frame = ref.read(data)
-    except ref.NotJoined:
+    except ref.Refused:
         return call([RECOVER], data)
     return call([PROVED], words.words(frame, {}).encode())
 
@@ -241,6 +247,7 @@ class Outcome:
         self.text = ""
         self.result = None  # of recover: (as reference.py's, as the Rust's in each view)
         self.patched = False  # the frame has two sets, and reference.py joins them
+        self.roled = False  # the frame has as lines, and reference.py accepts it
         self.refusal = None  # where a side refuses: texts (reference.py's, ours, the Rust's)
 
     @property
@@ -266,17 +273,18 @@ def compare(side, data, fits=None):
     """Runs a frame on both sides; each pass of reference.py starts from the
     sheet that ours left. `fits` are what it has worked out for these corners."""
     text = side.our_text(data)
+    outcome = Outcome()
     try:
         frame = ref.read(data)
-    except ref.NotJoined as refused:
-        return compare_refusal(side, data, f"{refused}\n", text)
+    except ref.Refused as refused:
+        return compare_refusal(side, data, outcome, f"{refused}\n", text)
+    outcome.patched = frame.patch is not None
+    outcome.roled = b"\n(as " in data
     if text is not None and text.startswith("(refused "):
-        return compare_refusal(side, data, "joined", text)
+        return compare_refusal(side, data, outcome, "accepted\n", text)
     frame.fits = fits or {}
     count = len(frame.passes)
     given = None if text is None else split_passes(text, count)
-    outcome = Outcome()
-    outcome.patched = frame.patch is not None
     ours, met, pass_lines = [], [], []
     sheet = frame.given()
     for number in range(count):
@@ -306,9 +314,9 @@ def compare(side, data, fits=None):
     return outcome
 
 
-def compare_refusal(side, data, model, ours):
-    """Of a frame whose two sets reference.py or ours does not join."""
-    outcome = Outcome()
+def compare_refusal(side, data, outcome, model, ours):
+    """Of a frame that reference.py or ours refuses. What the Rust side can refuse
+    are two sets that are not joined, and as lines; any other fails there."""
     outcome.refusal = (model, model if ours is None else ours, call(side.views[0].oracle, data))
     return outcome
 
@@ -325,6 +333,7 @@ def compare_passes(frame, ours, rust, excluded):
             {
                 "number": number,
                 "kind": kind,
+                "role": frame.roles[number],
                 "line": ours[number][0][1],
                 "unmatched": unmatched_of(ours[number][0]),
                 "excluded": kinds,
@@ -431,6 +440,8 @@ class Tally:
         self.rust_results = Counter()  # (view, equal, differ, excluded or no pass)
         self.result_exclusions = Counter()  # (view, exclusion): frames
         self.joined = Counter()  # frames with two sets: joined, or the number, and whether all agree
+        self.roled = Counter()  # frames with as lines: accepted, or the number, and whether all agree
+        self.roles = Counter()  # (view, role, kind): compared equal passes of these frames
 
     def update(self, other):
         for name, counter in vars(self).items():
@@ -438,11 +449,12 @@ class Tally:
 
     def add(self, outcome, moves):
         self.moves.update((parameter, units) for parameter, units, _ in moves)
-        if outcome.refusal is not None:
-            number = outcome.refusal[0].strip("()\n").split(" ")[1:2]
-            self.joined[f"refused {number[0]}" if number else "joined", not outcome.wrong()] += 1
-        elif outcome.patched:
-            self.joined["joined", not outcome.wrong()] += 1
+        number = outcome.refusal[0].strip("()\n").split(" ")[1:2] if outcome.refusal else []
+        refused = f"refused {number[0]}" if number else None
+        if outcome.patched or refused in JOINS:
+            self.joined[refused or "joined", not outcome.wrong()] += 1
+        if outcome.roled or refused in AS_LINES:
+            self.roled[refused or "accepted", not outcome.wrong()] += 1
         for number in range(len(outcome.near)):
             self.near.update(outcome.near[number])
         for p in outcome.passes:
@@ -450,6 +462,8 @@ class Tally:
         for view, passes in enumerate(outcome.views):
             for p in passes:
                 self.add_pass(view, p, {limit for limit, _ in outcome.near[p["number"]]})
+                if outcome.roled and p["equal"] and not p["excluded"]:
+                    self.roles[view, p["role"], p["kind"]] += 1
         if outcome.result is not None:
             self.add_result(outcome)
 
@@ -481,6 +495,9 @@ class Tally:
         if self.joined:
             rows = [[what] + [self.joined[what, e] for e in (True, False)] for what in JOINS]
             table("frames with two sets of labels", ["reference.py", "equal", "differ"], rows)
+        if self.roled:
+            rows = [[what] + [self.roled[what, e] for e in (True, False)] for what in AS_LINES]
+            table("frames with as lines", ["reference.py", "equal", "differ"], rows)
         for view in range(len(side.views)):
             self.print_view(view, side.views[view].name)
         if side.ours:
@@ -507,6 +524,9 @@ class Tally:
             rows.append([kind] + counts + [self.exclusions[view, x, kind] for x in EXCLUSIONS])
         head = ["pass", "equal all the same", "differ"] + EXCLUSIONS
         table(f"excluded ({name}; one pass may be excluded for several reasons)", head, rows)
+        if self.roled:
+            rows = [[role] + [self.roles[view, role, kind] for kind in KINDS] for role in ROLES]
+            table(f"equal passes of frames with as lines ({name})", ["role"] + KINDS, rows)
 
     def print_near(self, views):
         if self.moves:
@@ -570,9 +590,10 @@ def frames_of(options, share):
             with open(path, "rb") as file:
                 yield os.path.basename(path), file.read(), [], None
     elif options.moved:
-        yield from moved.frames(options.seed, options.count, options.only, share, options.shaded, options.patched)
+        yield from moved.frames(options.seed, options.count, options.only, share, options.shaded, options.patched, options.roled)
     else:
-        for name, data in generate.frames(options.seed, options.count, options.only, share, options.shaded, options.patched):
+        drawn = generate.frames(options.seed, options.count, options.only, share, options.shaded, options.patched, options.roled)
+        for name, data in drawn:
             yield name, re.sub(rb"(?m)^\(grow .*\)$", b"(grow)", data) if options.bare_grow else data, [], None
 
 
@@ -665,6 +686,7 @@ def arguments():
     parser.add_argument("--only", choices=list(generate.FAMILIES) + list(generate.SHADED_FAMILIES))
     parser.add_argument("--shaded", type=float, default=generate.SHADED)
     parser.add_argument("--patched", type=float, default=generate.PATCHED)
+    parser.add_argument("--roled", type=float, default=generate.ROLED)
     parser.add_argument("--moved", action="store_true")
     parser.add_argument("--bare-grow", action="store_true")
     parser.add_argument("--ours")

@@ -3,13 +3,17 @@
 taken as our side, and compared with the Rust until a pass that 01 compares
 differs, or what is refused for two sets that are not joined. A slip of a library
 call's label box (02, 5/14), which the Rust does not have, is looked for in the
-cases of refusals.py: the changed model answers one of them otherwise.
+cases of refusals.py: the changed model answers one of them otherwise. A slip of
+roles (02, 6/14) is looked for in those cases of cases.py that the gate replays:
+the changed model answers one of them otherwise than it is written there by hand.
 
     slips.py [--seed S] [--count N] [NAME ...]
 
 For each slip it prints after how many frames the Rust showed it, or in which
-case. Ends with 'N seen, 0 unseen'. Not tried here are changes that 01's exclusions cover: a
-candidate at the radius itself, and what lies off the sheet or on its rim.
+case. Of a slip of roles it says besides which frame with as lines the oracle
+answers otherwise, if any does; that is not asked for. Ends with 'N seen, 0 unseen'.
+Not tried here are changes that 01's exclusions cover: a candidate at the radius
+itself, and what lies off the sheet or on its rim.
 """
 
 import argparse
@@ -18,6 +22,7 @@ import sys
 import tempfile
 import types
 
+import cases
 import generate
 import refusals
 import run
@@ -441,15 +446,128 @@ BOX_SLIPS = {
 }
 
 
+RUNS = "    if not may_run(role, kind, bare):\n        raise NotRun(NOT_YOURS, number)\n"
+LATE = "    if not may_run(role, kind, bare):\n        frame.late = number\n"
+READ = "    frame = read_lines(data)\n"
+SAY_LATE = "    if hasattr(frame, \"late\"):\n        raise NotRun(NOT_YOURS, frame.late)\n"
+UNION = "            frame.around = widened(frame.around, cell)\n    return frame\n"
+FULL = "    if len(frame.passes) == 16:\n        raise Refused(OVERFULL, number)\n    bare"
+VALUES = "    values = []\n    for group, (value_of, least, most) in zip"
+A_DEALER = "return bare and kind in (\"grow\", \"fill\")"
+A_DEPOT = "    if role == \"depot\":\n        return kind in (\"grow\", \"fill\")\n"
+A_PLANT = "return role == \"plant\""
+AT_FIRST = "role = \"plant\"  # until"
+A_PASS = "            _read_pass(frame, role, kind, match, number)\n"
+A_ROLE = "            role = match.group(1).decode()\n"
+ROLES = "[line[4:-1].decode() for line in lines if line.startswith(b\"(as \")]"
+BEHIND = "        if named and kind not in PASSES:\n            raise NotRun(BENT, number)\n"
+END = "    if named:\n        raise NotRun(BENT, len(lines) + 1)\n"
+RANK = "        if rank < before:\n"
+RANK_UNLESS = "        if rank < before and not lines[number - 2].startswith(b\"(as \"):\n"
+LINES = "    for number, line in enumerate(lines, 1):\n"
+WORDS = r"\(as (dealer|depot|plant)\)"
+
+
+def exchanged(one, other):
+    return A_ROLE + f"            role = {{\"{one}\": \"{other}\", \"{other}\": \"{one}\"}}.get(role, role)\n"
+
+
+def if_so(condition, number="BENT"):
+    """An as line is refused there."""
+    return A_ROLE + f"            if {condition}:\n                raise NotRun({number}, number)\n"
+
+
+def let_through(what):
+    """Behind an as line."""
+    return BEHIND.replace("PASSES:", f"PASSES and not ({what}):")
+
+
+# Of roles: the same, seen by the cases of cases.py. Some are changes in two places.
+ROLE_SLIPS = {
+    "a dealer runs any grow and fill": (A_DEALER, "return kind in (\"grow\", \"fill\")"),
+    "a dealer runs a full grow": (A_DEALER, "return kind == \"grow\" or bare and kind == \"fill\""),
+    "a dealer runs a full fill": (A_DEALER, "return kind == \"fill\" or bare and kind == \"grow\""),
+    "a dealer runs local": (A_DEALER, "return bare or kind == \"local\""),
+    "a dealer does not run bare fill": (A_DEALER, "return bare and kind == \"grow\""),
+    "a dealer does not run bare grow": (A_DEALER, "return bare and kind == \"fill\""),
+    "a depot runs local": (A_DEPOT, A_DEPOT.replace("\"fill\")", "\"fill\", \"local\")")),
+    "a depot runs bare passes alone": (A_DEPOT, A_DEPOT.replace("\"fill\")", "\"fill\") and bare")),
+    "a depot runs full passes alone": (A_DEPOT, A_DEPOT.replace("\"fill\")", "\"fill\") and not bare")),
+    "a depot does not run fill": (A_DEPOT, A_DEPOT.replace("(\"grow\", \"fill\")", "(\"grow\",)")),
+    "a depot does not run grow": (A_DEPOT, A_DEPOT.replace("(\"grow\", \"fill\")", "(\"fill\",)")),
+    "the plant does not run local": (A_PLANT, A_PLANT + " and kind != \"local\""),
+    "the plant does not run bare passes": (A_PLANT, A_PLANT + " and not bare"),
+    "everyone runs all": (RUNS, ""),
+    "bare by the numbers": (RUNS, RUNS.replace("bare)", "bare or tuple(values) == BARE.get(kind))")),
+    "starts as a dealer": (AT_FIRST, AT_FIRST.replace("plant", "dealer")),
+    "starts as a depot": (AT_FIRST, AT_FIRST.replace("plant", "depot")),
+    "starts as nobody": (AT_FIRST, AT_FIRST.replace("plant", "nobody")),
+    "forgotten after one pass": (A_PASS, A_PASS + "            role = \"plant\"\n"),
+    "forgotten after two passes": (A_PASS, A_PASS + "            role = \"plant\" if frame.roles[-2:] == [role] * 2 else role\n"),
+    "kept until a pass of another kind": (
+        A_PASS,
+        "            if frame.passes and kind != frame.passes[-1][0] and not lines[number - 2].startswith(b\"(as \"):\n"
+        "                role = \"plant\"\n" + A_PASS,
+    ),
+    "the first as line counts for all": (A_ROLE, f"            role = {ROLES}[0]\n"),
+    "the last as line counts for all": (A_ROLE, f"            role = {ROLES}[-1]\n"),
+    "an as line behind a pass does not count": (A_ROLE, "            role = role if frame.passes else match.group(1).decode()\n"),
+    "a dealer stays one": (A_ROLE, "            role = role if role == \"dealer\" else match.group(1).decode()\n"),
+    "the plant stays the plant": (A_ROLE, "            role = role if \"plant\" in frame.roles else match.group(1).decode()\n"),
+    "dealer and depot exchanged": (A_ROLE, exchanged("dealer", "depot")),
+    "dealer and plant exchanged": (A_ROLE, exchanged("dealer", "plant")),
+    "depot and plant exchanged": (A_ROLE, exchanged("depot", "plant")),
+    "10 before 3": (VALUES, RUNS + VALUES),
+    "10 before 2": (FULL, FULL.replace("raise", "if not may_run(role, kind, match.group(1) is None):\n            raise NotRun(NOT_YOURS, number)\n        raise")),
+    "10 before 1": (BEHIND, "        if line.startswith(b\"(local\") and role != \"plant\":\n            raise NotRun(NOT_YOURS, number)\n" + BEHIND),
+    "10 after all lines": (RUNS, LATE, READ, READ + SAY_LATE),
+    "10 after the join": (RUNS, LATE, UNION, UNION.replace("    return", SAY_LATE + "    return")),
+    "a pass that is not its own left out": (RUNS, RUNS.replace("raise NotRun(NOT_YOURS, number)", "return")),
+    "10 as 9": (RUNS, RUNS.replace("NOT_YOURS", "CLASH")),
+    "10 as 3": (RUNS, RUNS.replace("NOT_YOURS", "WILD")),
+    "10 as 1": (RUNS, RUNS.replace("NOT_YOURS", "BENT")),
+    "10 at the line before": (RUNS, RUNS.replace("number)", "number - 1)")),
+    "as lines not counted as lines": (LINES, LINES + "        number -= sum(other.startswith(b\"(as \") for other in lines[: number - 1])\n"),
+    "as lines counted as passes": (A_PASS, f"            if len(frame.passes) + len({ROLES}) > 16:\n                raise Refused(OVERFULL, number)\n" + A_PASS),
+    "an as line behind 16 passes is 2": (A_ROLE, if_so("len(frame.passes) == 16", "OVERFULL")),
+    "the end let through": (END, ""),
+    "the end at the as line": (END, END.replace(" + 1", "")),
+    "two as lines let through": (BEHIND, let_through("kind == \"as\"")),
+    "the same as line twice let through": (BEHIND, let_through("line == lines[number - 2]")),
+    "another as line let through": (BEHIND, let_through("kind == \"as\" and line != lines[number - 2]")),
+    "a shade behind an as line let through": (BEHIND, let_through("kind == \"shade\""), RANK, RANK_UNLESS),
+    "a patch behind an as line let through": (BEHIND, let_through("kind == \"patch\""), RANK, RANK_UNLESS),
+    "a label behind an as line let through": (BEHIND, let_through("kind == \"label\""), RANK, RANK_UNLESS),
+    "a corner behind an as line let through": (BEHIND, let_through("kind == \"corner\""), RANK, RANK_UNLESS),
+    "what is no pass refused at the as line": (BEHIND, BEHIND.replace("number)", "number - 1)")),
+    "what is no pass is 10": (BEHIND, BEHIND.replace("BENT", "NOT_YOURS")),
+    "labels behind a dealer's pass": (RANK, RANK.replace(":", " and role != \"dealer\":")),
+    "an as line in place of the band line": ("        if number <= 4:\n", "        if number <= 4 and not line.startswith(b\"(as \"):\n"),
+    "none without corners": (A_ROLE, if_so("not frame.x")),
+    "none behind a pass": (A_ROLE, if_so("frame.passes")),
+    "none behind shades": (A_ROLE, if_so("frame.shades")),
+    "none behind two sets": (A_ROLE, if_so("frame.patch")),
+    "any word for the plant": (WORDS, r"\(as ([a-z]+)\)", A_PLANT, "return True"),
+    "no word for the plant": (WORDS, r"\(as(?: (dealer|depot|plant))?\)", "match.group(1).decode()", "(match.group(1) or b\"plant\").decode()"),
+    "upper case": (WORDS, r"\(as (Dealer|dealer|depot|plant)\)", "match.group(1).decode()", "match.group(1).decode().lower()"),
+    "two spaces": (WORDS, r"\(as +(dealer|depot|plant)\)"),
+    "a carriage return": (WORDS, r"\(as (dealer|depot|plant)\)\r?"),
+    "depot not known": (WORDS, r"\(as (dealer|plant)\)"),
+    "the role is printed": ("        lines += run_pass(", "        lines += [f\"(as {frame.roles[number]})\"] + run_pass("),
+}
+
+
 def changed(name):
     """reference.py with the slip, as a module of its own."""
     with open(os.path.join(HERE, "reference.py")) as file:
         text = file.read()
-    old, new = SLIPS[name] if name in SLIPS else BOX_SLIPS[name]
-    if text.count(old) != 1:
-        sys.exit(f"{name}: stands {text.count(old)} times in reference.py")
+    slip = {**SLIPS, **BOX_SLIPS, **ROLE_SLIPS}[name]
+    for old, new in zip(slip[::2], slip[1::2]):
+        if text.count(old) != 1:
+            sys.exit(f"{name}: stands {text.count(old)} times in reference.py: {old}")
+        text = text.replace(old, new)
     module = types.ModuleType("slipped")
-    exec(compile(text.replace(old, new), f"reference.py, {name}", "exec"), module.__dict__)
+    exec(compile(text, f"reference.py, {name}", "exec"), module.__dict__)
     return module
 
 
@@ -460,8 +578,16 @@ def seen_in_frames(module, frames, folder):
         outcome = run.compare(side, data)
         wrong = outcome.differences()
         if wrong or outcome.refusal_differs():
-            where = f"a {wrong[0]['kind']} pass" if wrong else "the answer to two sets"
+            where = f"a {wrong[0]['kind']} pass" if wrong else "the answer"
             return f"{where} of frame {tried}, {frame}"
+    return None
+
+
+def seen_in_texts(module, texts):
+    """The case of cases.py that the changed model answers otherwise, or None."""
+    for name, data, answer in texts:
+        if module.result(data) != answer:
+            return f"a text, {name}"
     return None
 
 
@@ -479,17 +605,26 @@ def main():
     parser.add_argument("--seed", type=int, default=1)
     parser.add_argument("--count", type=int, default=1000)
     options = parser.parse_args()
-    names = options.names or [*SLIPS, *BOX_SLIPS]
+    names = options.names or [*SLIPS, *BOX_SLIPS, *ROLE_SLIPS]
     if not os.path.exists(run.ORACLE) and not all(name in BOX_SLIPS for name in names):
         sys.exit("slips.py: compare/rust/out/oracle is missing: compare/rust/build builds it")
-    frames = list(generate.frames(options.seed, options.count))
-    cases = [(name, several, refusals.lines_of(several)) for name, _, several, _ in refusals.all_boxed()]
+    frames = list(generate.frames(options.seed, options.count, roled=0))
+    roled = list(generate.frames(options.seed, options.count // 4, roled=1))
+    boxes = [(name, several, refusals.lines_of(several)) for name, _, several, _ in refusals.all_boxed()]
+    texts = [one for one in cases.roles() if one[0].removeprefix("as-") in cases.STORED_ROLES]
     modules = {name: changed(name) for name in names}
     seen = unseen = 0
     with tempfile.TemporaryDirectory() as folder:
         for name, module in modules.items():
-            where = seen_in_boxes(module, cases) if name in BOX_SLIPS else seen_in_frames(module, frames, folder)
-            print(f"{name}: seen in {where}" if where else f"{name}: not seen", flush=True)
+            besides = ""
+            if name in BOX_SLIPS:
+                where = seen_in_boxes(module, boxes)
+            elif name in ROLE_SLIPS:
+                where = seen_in_texts(module, texts)
+                besides = f"; and in {seen_in_frames(module, roled, folder) or 'no frame'}"
+            else:
+                where = seen_in_frames(module, frames, folder)
+            print((f"{name}: seen in {where}" if where else f"{name}: not seen") + besides, flush=True)
             seen += where is not None
             unseen += where is None
     print(f"{seen} seen, {unseen} unseen")

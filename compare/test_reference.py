@@ -1,12 +1,13 @@
 #!/usr/bin/env python3
 """Checks of reference.py against what 01 says in so many words: its example,
 M1 to M9, and each refusal with its line; of shades against 02, 1/14, of bare
-grow against 02, 2/14, of two patches against 02, 3/14, and of the label box
-against 02, 5/14. Ends with 'N passed, 0 failed'."""
+grow against 02, 2/14, of two patches against 02, 3/14, of the label box against
+02, 5/14, and of roles against 02, 6/14. Ends with 'N passed, 0 failed'."""
 
 import random
 import sys
 
+import cases
 import generate
 import reference as ref
 import refusals as calls
@@ -312,6 +313,132 @@ def split():
             yield f"split {k}", ref.result(two.text()), ref.result(whole.text())
 
 
+BARE_GROW, BARE_FILL = b"(grow)\n", b"(fill)\n"
+GROW = b"(grow 3eb33333 3fc00000 3fa00000)\n"
+FILL = b"(fill 3eb33333 3fc00000 1)\n"
+LOCAL = b"(local 3eb33333 3fc00000 1 3e800000 1)\n"
+DEALER, DEPOT, PLANT = b"(as dealer)\n", b"(as depot)\n", b"(as plant)\n"
+
+
+def acted(*lines):
+    """The example with these lines in place of its pass: the first is line 10."""
+    return b"".join(LINES[:9]) + b"".join(lines)
+
+
+def roles():
+    """02, 6/14, by hand: who runs each pass, and who may not."""
+    for name, lines, expected in [
+        ("none", [LOCAL, BARE_GROW], ["plant", "plant"]),
+        ("at the first", [DEALER, BARE_GROW, BARE_FILL], ["dealer", "dealer"]),
+        ("between", [LOCAL, DEPOT, GROW, FILL], ["plant", "depot", "depot"]),
+        ("before each", [DEALER, BARE_GROW, DEPOT, FILL, PLANT, LOCAL], ["dealer", "depot", "plant"]),
+        ("the same again", [DEALER, BARE_GROW, DEALER, BARE_GROW], ["dealer", "dealer"]),
+        ("changed back", [GROW, DEALER, BARE_FILL, PLANT, LOCAL, LOCAL], ["plant", "dealer", "plant", "plant"]),
+    ]:
+        frame = ref.read(acted(*lines))
+        kinds = [line[1:-2].split(b" ")[0].decode() for line in lines if not line.startswith(b"(as ")]
+        yield name, frame.roles, expected
+        yield f"{name}, passes", [kind for kind, _ in frame.passes], kinds
+        for other in cases.in_place_of_roles(acted(*lines)):
+            yield f"{name}, result", ref.result(other), ref.result(acted(*lines))
+    table = [(DEALER, "yynnn"), (DEPOT, "yyyyn"), (PLANT, "yyyyy"), (b"", "yyyyy")]
+    for line, may in table:
+        for one, answer in zip((BARE_GROW, BARE_FILL, GROW, FILL, LOCAL), may):
+            said = ref.result(acted(line, one)).split("\n")[0]
+            yield f"{line} {one}", said, "(result 1)" if answer == "y" else "(refused 10 11)"
+
+
+def role_refusals():
+    """02, 6/14, by hand: 10 at the pass line, after 1, 2 and 3; 1 for what
+    stands behind an as line and is no pass, and for the end."""
+    wild, wild_local = b"(grow 41800001 3fc00000 3fa00000)\n", b"(local 3eb33333 3fc00000 1 3e800000 5)\n"
+    for name, text, number, line in [
+        ("a dealer's full grow", acted(DEALER, GROW), 10, 11),
+        ("it holds", acted(DEALER, BARE_GROW, BARE_FILL, BARE_GROW, FILL), 10, 14),
+        ("of another line", acted(GROW, LOCAL, DEPOT, GROW, LOCAL, FILL), 10, 14),
+        ("a depot's behind a dealer", acted(DEALER, BARE_GROW, DEPOT, LOCAL), 10, 13),
+        ("a dealer's behind a depot", acted(DEPOT, GROW, DEALER, GROW), 10, 13),
+        ("without corners", HEAD + DEALER + LOCAL, 10, 6),
+        ("behind a shade", shaded([(2, 0)], DEPOT + LOCAL), 10, 12),
+        ("the first of two", acted(DEALER, LOCAL, GROW), 10, 11),
+        ("what stands behind it", acted(DEALER, LOCAL, b"x\n"), 10, 11),
+        ("what stands before it", acted(b"(shade 3 0)\n", DEALER, LOCAL), 5, 10),
+        ("3 and 10", acted(DEALER, wild), 3, 11),
+        ("3 and 10, local", acted(DEPOT, wild_local), 3, 11),
+        ("1 and 10", acted(DEALER, b"(local)\n"), 1, 11),
+        ("1 and 10, no end", acted(DEALER, LOCAL[:-1]), 1, 11),
+        ("2", acted(BARE_GROW * 16, PLANT, BARE_GROW), 2, 27),
+        ("2 and 10", acted(BARE_GROW * 16, DEALER, GROW), 2, 27),
+        ("2, 3 and 10", acted(BARE_GROW * 16, DEALER, wild), 2, 27),
+        ("1, 2 and 10", acted(BARE_GROW * 16, DEALER, b"(local)\n"), 1, 27),
+        ("17, each with an as line", acted((DEALER + BARE_GROW) * 17), 2, 43),
+        ("16 and an as line", acted(BARE_GROW * 16, DEALER), 1, 27),
+        ("the end", acted(PLANT), 1, 11),
+        ("the end behind a pass", acted(GROW, PLANT), 1, 12),
+        ("the end without corners", HEAD + DEPOT, 1, 6),
+        ("half a line", acted(PLANT, b"(gro"), 1, 11),
+        ("no end of the as line", acted(PLANT[:-1]), 1, 10),
+        ("another", acted(DEALER, PLANT, LOCAL), 1, 11),
+        ("the same", acted(PLANT, PLANT, LOCAL), 1, 11),
+        ("a corner", acted(PLANT, CORNER), 1, 11),
+        ("a label", acted(PLANT, b"(label 2 (5 5))\n"), 1, 11),
+        ("a label of an unknown corner", acted(PLANT, b"(label 9 (5 5))\n"), 1, 11),
+        ("a shade", acted(PLANT, b"(shade 2 0)\n", BARE_GROW), 1, 11),
+        ("a patch", acted(PLANT, b"(patch)\n", BARE_GROW), 1, 11),
+        ("an empty line", acted(PLANT, b"\n", BARE_GROW), 1, 11),
+        ("a corner at once", HEAD + PLANT + CORNER, 1, 6),
+        ("a label behind a pass", acted(PLANT, BARE_GROW, b"(label 2 (5 5))\n"), 1, 12),
+        ("in the heading", with_line(4, PLANT), 1, 4),
+        ("as nobody", acted(b"(as)\n", BARE_GROW), 1, 10),
+        ("as another", acted(b"(as owner)\n", BARE_GROW), 1, 10),
+        ("two roles", acted(b"(as dealer depot)\n", BARE_GROW), 1, 10),
+        ("two spaces", acted(b"(as  dealer)\n", BARE_GROW), 1, 10),
+        ("a space behind", acted(b"(as dealer )\n", BARE_GROW), 1, 10),
+        ("upper case", acted(b"(as Dealer)\n", BARE_GROW), 1, 10),
+        ("CR", acted(b"(as dealer)\r\n", BARE_GROW), 1, 10),
+        ("10 and 8", patched([(0, 0, 0)], [(1, 1, 0)], DEALER + LOCAL), 10, 12),
+        ("10 and 9", patched([(0, 0, 0), (1, 1, 0)], [(0, 0, 0), (1, 2, 0)], DEPOT + LOCAL), 10, 14),
+        ("10 and 4", patched([(0, 63, 0)], [(0, 0, 0), (1, 1, 0)], DEALER + FILL), 10, 13),
+        ("1 and 8", patched([(0, 0, 0)], [(1, 1, 0)], DEALER), 1, 12),
+        ("8", patched([(0, 0, 0)], [(1, 1, 0)], DEALER + BARE_GROW), 8, 9),
+        ("9", patched([(0, 0, 0), (1, 1, 0)], [(0, 0, 0), (1, 2, 0)], DEPOT + GROW), 9, 10),
+        ("4", patched([(0, 63, 0)], [(0, 0, 0), (1, 1, 0)], PLANT + LOCAL), 4, 9),
+    ]:
+        yield name, ref.result(text), f"(refused {number} {line})\n"
+
+
+def roled():
+    """Frames of generate.py with as lines, and without. An accepted one has the
+    result of the frame without its as lines, and of those with a depot's or the
+    plant's line in a dealer's place. The share of frames with as lines changes no
+    other frame."""
+    plain = list(generate.frames(601, 120, roled=0))
+    mixed = list(generate.frames(601, 120))
+    yield "none", [name for name, _ in plain if "roled" in name], []
+    yield "some", 15 < sum("roled" in name for name, _ in mixed) < 50, True
+    for one, other in zip(plain, mixed):
+        if "roled" not in other[0]:
+            yield f"{one[0]}, the same", other, one
+    tried = refused = 0
+    for name, text in generate.frames(602, 100, roled=1):
+        try:
+            frame = ref.read(text)
+        except ref.NotRun as why:
+            refused += 1
+            line = text.split(b"\n")[why.line - 1]
+            passes = line.startswith((b"(grow", b"(fill", b"(local"))
+            yield f"{name}, refused", (why.number, passes), (10, True) if passes else (1, False)
+            continue
+        except ref.NotJoined:
+            continue
+        result = ref.result(text)
+        tried += text.count(DEALER)
+        yield f"{name}, a role for each pass", len(frame.roles), len(frame.passes)
+        for other in cases.in_place_of_roles(text):
+            yield f"{name}, in place", ref.result(other), result
+    yield "dealers' lines, refused frames", (tried > 20, 5 < refused < 40), (True, True)
+
+
 def boxes():
     """02, 5/14, by hand: the box with one cell more, as it is handed, and as it
     is answered."""
@@ -366,7 +493,7 @@ def kept():
         for name, data in generate.frames(seed, 120, patched=patched_share):
             try:
                 frame = ref.read(data)
-            except ref.NotJoined:
+            except (ref.NotJoined, ref.NotRun):
                 continue
             sheet = frame.given()
             yield f"{name}, read", sheet.around, found(sheet)
@@ -518,7 +645,7 @@ def acceptances():
 
 def main():
     passed = failed = 0
-    for checks in (worked_examples, shades, lent, bare_grow, patches, patch_refusals, joins, split, boxes, kept, library, refusals, acceptances):
+    for checks in (worked_examples, shades, lent, bare_grow, patches, patch_refusals, joins, split, roles, role_refusals, roled, boxes, kept, library, refusals, acceptances):
         for name, got, expected in checks():
             if got == expected:
                 passed += 1

@@ -22,8 +22,8 @@ first, those of a 17th call again the lowest. They are the byte that is lent: 0
 no shade, 1 kind 0, 2 kind 1; 3 is out of range. A frame lends its own shades to
 every pass.
 The labels of a frame with a patch line are those of both sets, joined by
-reference.py. A frame that the reader refuses is refused here, with the same
-line. The program reads 262,144 bytes: more is an error here.
+reference.py. As lines leave nothing: a call knows no role. A frame that the
+reader refuses is refused here, with the same line. The program reads 262,144 bytes: more is an error here.
 """
 
 import argparse

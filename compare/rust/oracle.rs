@@ -6,8 +6,10 @@
 //!
 //! The frame is 01's text and has to be an accepted one: anything else ends
 //! the program with a message, but two sets of labels that are not joined (02,
-//! 3/14), for which it prints `(refused NUMBER LINE)` alone. The join is this
-//! program's own: the source has none. Output, pass by pass:
+//! 3/14), an as line before what is no pass, and a pass that is not its role's
+//! (02, 6/14), for which it prints `(refused NUMBER LINE)` alone. The join and
+//! the roles are this program's own: the source has neither, and a pass that is
+//! run knows no role. Output, pass by pass:
 //!
 //!     pass K KIND              K counts from 1
 //!     (grow 1 8 0 0 no)        the pass line of 01's result
@@ -106,15 +108,43 @@ fn join(sheet: &mut GrowResult, second: &[(usize, Cell)]) -> Result<(), u32> {
     Ok(())
 }
 
+/// 02, 6/14: how much the passes want of who runs them. A role is the most that
+/// it may: the dealer what is bare, the depot all but local.
+const BARE: u32 = 0;
+const FULL: u32 = 1;
+const LOCAL: u32 = 2;
+
+fn role(word: &str) -> u32 {
+    match word {
+        "dealer" => BARE,
+        "depot" => FULL,
+        "plant" => LOCAL,
+        _ => fail(&format!("no role: {word}")),
+    }
+}
+
+fn wanted(words: &[&str]) -> u32 {
+    match words[0] {
+        "local" => LOCAL,
+        _ if words.len() > 1 => FULL,
+        _ => BARE,
+    }
+}
+
+/// What a refused frame is answered by: number and line.
+type Refusal = (u32, usize);
+
 /// A frame, read line by line; the brackets only part the words. The sheet is
-/// that of the first set of labels.
-fn read_frame(text: &str) -> (Given, GrowResult, Option<Second>, Vec<Pass>) {
+/// that of the first set of labels. It is refused only for its as lines.
+fn read_frame(text: &str) -> Result<(Given, GrowResult, Option<Second>, Vec<Pass>), Refusal> {
     let mut given =
         Given { positions: vec![], pitch: vec![], shades: vec![], cell: 0.0, band: 0.0 };
     let mut sheet = GrowResult::default();
     let mut passes = Vec::new();
     let mut second: Option<Second> = None;
     let mut seen: (HashSet<usize>, HashSet<Cell>) = Default::default();
+    let mut may = LOCAL;
+    let mut as_line = None;
     if !text.ends_with('\n') {
         fail("the last line has no end");
     }
@@ -124,6 +154,10 @@ fn read_frame(text: &str) -> (Given, GrowResult, Option<Second>, Vec<Pass>) {
         let expected = ["frame", "cell", "axes", "band"];
         if words.is_empty() || (k < 4 && words[0] != expected[k]) {
             fail(&format!("line {}: {line}", k + 1));
+        }
+        let runs = ["grow", "fill", "local"].contains(&words[0]);
+        if as_line == Some(k) && !runs {
+            return Err((1, k + 1));
         }
         match (words[0], words.len()) {
             ("frame", 2) if line == "(frame 1)" => {}
@@ -171,13 +205,26 @@ fn read_frame(text: &str) -> (Given, GrowResult, Option<Second>, Vec<Pass>) {
                     _ => fail(&format!("line {}: {line}", k + 1)),
                 }
             }
-            _ => passes.push(read_pass(&words)),
+            ("as", 2) => {
+                may = role(words[1]);
+                as_line = Some(k + 1);
+            }
+            _ => {
+                passes.push(read_pass(&words));
+                if wanted(&words) > may {
+                    return Err((10, k + 1));
+                }
+            }
         }
     }
-    if text.lines().count() < 4 || given.positions.len() > 1024 || passes.len() > 16 {
+    let count = text.lines().count();
+    if as_line == Some(count) {
+        return Err((1, count + 1));
+    }
+    if count < 4 || given.positions.len() > 1024 || passes.len() > 16 {
         fail("not an accepted frame");
     }
-    (given, sheet, second, passes)
+    Ok((given, sheet, second, passes))
 }
 
 fn read_pass(words: &[&str]) -> Pass {
@@ -385,13 +432,19 @@ fn main() {
     if let Err(e) = std::io::stdin().read_to_string(&mut text) {
         fail(&format!("standard input: {e}"));
     }
-    let (given, mut sheet, second, passes) = read_frame(&text);
-    if let Some(second) = second {
-        if let Err(number) = join(&mut sheet, &second.labels) {
-            println!("(refused {number} {})", second.line);
+    let read = read_frame(&text).and_then(|(given, mut sheet, second, passes)| {
+        if let Some(second) = second {
+            join(&mut sheet, &second.labels).map_err(|number| (number, second.line))?;
+        }
+        Ok((given, sheet, passes))
+    });
+    let (given, mut sheet, passes) = match read {
+        Ok(read) => read,
+        Err((number, line)) => {
+            println!("(refused {number} {line})");
             return;
         }
-    }
+    };
     std::panic::set_hook(Box::new(|_| {}));
 
     if whole_result {
