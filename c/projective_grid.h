@@ -5,7 +5,7 @@
  *
  * WHAT HOLDS OF EVERY FUNCTION
  *
- * The answer is 0 (done) or the number of a refusal, 1 to 9; the reader's has the line in it too, see there. Later requests
+ * The answer is 0 (done) or the number of a refusal, 1 to 10; the reader's has the line in it too, see there. Later requests
  * may add numbers (02, 3/14): take any answer but 0 for a refusal. No function asks anything of the values that it is
  * lent: each checks them and refuses what is wrong. A refused call changes no place of any buffer. A call that is done
  * writes what is said here, and leaves every other place of every buffer as it was. No function keeps a pointer, allocates,
@@ -32,9 +32,10 @@
 extern "C" {
 #endif
 
-/* The answers. The refusals have 01's numbers; 01's word for each stands beside it. The passes and the writers try
- * 7, 2, 3, 5, 6 in this order; the reader tries 7, then the number of bytes (2, line 0), then line by line 1 to 6, and where
- * all lines are fine and the frame has two sets of labels 8, 9 and 4, at the patch line (02, 3/14). */
+/* The answers. The refusals have 01's numbers, from 8 on 02's; the word for each stands beside it (that of 8 and of 9 is
+ * ours). The passes and the writers try 7, 2, 3, 5, 6 in this order; the reader tries 7, then the number of bytes (2, line
+ * 0), then line by line 1 to 6 and 10 behind them, and where all lines are fine and the frame has two sets of labels 8, 9
+ * and 4, at the patch line (02, 3/14). */
 enum projective_grid_answer {
     PROJECTIVE_GRID_DONE = 0,
     PROJECTIVE_GRID_MALFORMED = 1,        /* bent: line missing, out of order or ill-formed */
@@ -45,7 +46,8 @@ enum projective_grid_answer {
     PROJECTIVE_GRID_DUPLICATE = 6,        /* doubled: cell or corner labelled twice in one set, corner shaded twice */
     PROJECTIVE_GRID_BUFFER_TOO_SHORT = 7, /* short: lent buffer too short */
     PROJECTIVE_GRID_NO_SHARED_CORNER = 8, /* apart: no corner is in both sets of labels */
-    PROJECTIVE_GRID_PATCHES_CLASH = 9     /* clash: no shift gives every shared corner one cell and every cell one corner */
+    PROJECTIVE_GRID_PATCHES_CLASH = 9,    /* clash: no shift gives every shared corner one cell and every cell one corner */
+    PROJECTIVE_GRID_NOT_PERMITTED = 10    /* not yours: a pass that its role may not run; the reader's alone, see the roles */
 };
 
 enum {
@@ -58,7 +60,7 @@ enum {
     PROJECTIVE_GRID_BOX = 5,
     PROJECTIVE_GRID_QUEUE_PER_CORNER = 4,
     PROJECTIVE_GRID_ATTACHED_PER_CORNER = 1,
-    PROJECTIVE_GRID_PASS_WORDS = 6,
+    PROJECTIVE_GRID_PASS_WORDS = 7,
     PROJECTIVE_GRID_OUTCOME_WORDS = 11,
     PROJECTIVE_GRID_SETTINGS = 6,
     PROJECTIVE_GRID_READ_OUT = 2,
@@ -105,17 +107,26 @@ enum projective_grid_shade {
     PROJECTIVE_GRID_KIND_1 = 2
 };
 
-/* A PASS OF A FRAME: six words. Floats are the bits of a float. */
+/* A PASS OF A FRAME: seven words. Floats are the bits of a float. */
 enum projective_grid_pass {
     PROJECTIVE_GRID_PASS_KIND = 0,    /* a kind, see below */
     PROJECTIVE_GRID_PASS_SEARCH = 1,  /* bits */
     PROJECTIVE_GRID_PASS_FACTOR = 2,  /* bits */
     PROJECTIVE_GRID_PASS_THIRD = 3,   /* bits: grow's boundary, local's residual; fill: 0 */
     PROJECTIVE_GRID_PASS_ROUNDS = 4,  /* fill and local; grow: 0 */
-    PROJECTIVE_GRID_PASS_DEPTH = 5    /* local; grow and fill: 0 */
+    PROJECTIVE_GRID_PASS_DEPTH = 5,   /* local; grow and fill: 0 */
+    PROJECTIVE_GRID_PASS_ROLE = 6     /* who runs it: a role, see below */
 };
 
 enum projective_grid_kind { PROJECTIVE_GRID_GROW = 0, PROJECTIVE_GRID_FILL = 1, PROJECTIVE_GRID_LOCAL = 2 };
+
+/* THE ROLES: who runs a pass of a frame (02, 6/14). A line (as plant), (as depot) or (as dealer) right before a pass says who
+ * runs that pass and all behind it until the next such line; passes before the first are the plant's. A dealer may run the
+ * bare (grow) and (fill), a depot any grow and fill, the plant all. The reader refuses with 10, at the line of the pass, a
+ * frame with a pass that its role may not run: after 1, 2 and 3 of that line. A bare form whose numbers are written out is
+ * not bare, although the words of the pass are the same.
+ * The reader alone asks for the role. The calls of the three passes know none: they run what they are lent. */
+enum projective_grid_role { PROJECTIVE_GRID_PLANT = 0, PROJECTIVE_GRID_DEPOT = 1, PROJECTIVE_GRID_DEALER = 2 };
 
 /* THE OUTCOME OF A PASS: eleven words; 0 for what the pass does not have. A pass writes them, and the writers read them:
  * lend pass k the words from 11 * k on, and the writers all of them. */
@@ -187,12 +198,12 @@ uint32_t projective_grid_extend_via_local_homography(
     float search_rel, float ambiguity_factor, uint32_t max_iters, float max_residual_rel, uint32_t extend_depth,
     uint32_t *out, size_t out_len);
 
-/* Reads a frame. Needed: 1,024 places each of xs, ys, pitches and shades, 16,384 of sheet, 5 of around, 96 of
+/* Reads a frame. Needed: 1,024 places each of xs, ys, pitches and shades, 16,384 of sheet, 5 of around, 112 of
  * passes, 6 of settings, 2 of out.
  * Done: the corners stand at the front of xs, ys, pitches and shades, the sheet of the given labels (where the frame has two
  * sets of them, both joined, in the cells of the first) in the first 16,384 places of sheet, its label box at the front of
- * around, six words for each pass at the front of passes, the six settings at the front of settings, and in out the number
- * of corners and the number of passes.
+ * around, seven words for each pass at the front of passes, the six settings at the front of settings, and in out the number
+ * of corners and the number of passes. As lines are no passes.
  * Refused: the answer is the number plus 16 times the line of the frame; the line is 0 where there are too many bytes, and
  * for 7. PROJECTIVE_GRID_NUMBER and PROJECTIVE_GRID_LINE take it apart. */
 #define PROJECTIVE_GRID_NUMBER(answer) ((answer) % 16)

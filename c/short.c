@@ -1,8 +1,9 @@
 /* Lends every exported function every buffer one place short, once each: the answer has to be 7, and no place of any
  * buffer may change. With exactly the places that are needed it has to be done, and with more the rest has to stay as it
  * was: of what is lent as shades that is more than a byte may be, and must not be looked at. Then values that are refused
- * by 1 to 6, every wrong label box among them: again no place may change. A box that a call writes has to be what a search
- * of the sheet finds.
+ * by 1 to 6, every wrong label box among them, and frames that are refused by 8 to 10: again no place may change. A box that
+ * a call writes has to be what a search of the sheet finds, and the words of passes that stand behind as lines what is
+ * written here.
  * Argument: an accepted frame. */
 #include <math.h>
 #include <stdio.h>
@@ -13,6 +14,7 @@
 
 enum { MORE = 3, CORNERS = PROJECTIVE_GRID_CORNERS + 1 + MORE, TEXT = PROJECTIVE_GRID_LONGEST_TEXT };
 enum { WORDS = PROJECTIVE_GRID_OUTCOME_WORDS, BOX = PROJECTIVE_GRID_BOX, UNTOUCHED = 0xa5 };
+enum { PASS_WORDS = PROJECTIVE_GRID_PASS_WORDS, PASSES = PROJECTIVE_GRID_PASSES };
 enum { EMPTY = PROJECTIVE_GRID_BOX_EMPTY, LOW_I = PROJECTIVE_GRID_BOX_LOW_I, HIGH_I = PROJECTIVE_GRID_BOX_HIGH_I };
 enum { LOW_J = PROJECTIVE_GRID_BOX_LOW_J, HIGH_J = PROJECTIVE_GRID_BOX_HIGH_J };
 
@@ -20,7 +22,7 @@ static uint8_t frame[PROJECTIVE_GRID_FRAME_BYTES + 1 + MORE];
 static float xs[CORNERS], ys[CORNERS], pitches[CORNERS], settings[PROJECTIVE_GRID_SETTINGS + MORE];
 static uint16_t sheet[PROJECTIVE_GRID_SHEET + MORE], queue[4 * CORNERS], attached[CORNERS];
 static int32_t around[BOX + MORE];
-static uint32_t passes[96 + MORE], words[16 * WORDS + MORE], out[WORDS + MORE];
+static uint32_t passes[PASSES * PASS_WORDS + MORE], words[16 * WORDS + MORE], out[WORDS + MORE];
 static uint8_t shades[CORNERS], text[TEXT + MORE];
 
 /* A buffer as it is lent: where, its places and their size, how many of them are needed, and how it was before the call. */
@@ -311,7 +313,86 @@ static void read_refused(struct call *c, const char *bytes, size_t length, uint3
     memcpy(frame, right, sizeof frame);
 }
 
+#define FRONT "(frame 1)\n(cell 41200000)\n(axes (3f800000 00000000) (00000000 3f800000))\n(band 3e800000)\n"
+#define CORNER "(corner (41200000 41200000) 00000000)\n"
 #define SECOND_CORNER "(corner (41a00000 41200000) 00000000)\n"
+#define FOUR(lines) lines lines lines lines
+#define SIXTEEN(lines) FOUR(FOUR(lines))
+
+/* The forms of a pass, bare or not, and the words that say it, all but the role: bare grow's numbers stand in its full form. */
+#define GROW "(grow)\n"
+#define FILL "(fill)\n"
+#define FULL_GROW "(grow 3eb33333 3fc00000 3fa00000)\n"
+#define FULL_FILL "(fill 3eb33333 3fc00000 1)\n"
+#define OTHER_GROW "(grow 3f000000 40000000 40400000)\n"
+#define OTHER_FILL "(fill 3f000000 40000000 64)\n"
+#define LOCAL "(local 3f000000 40000000 7 3e800000 2)\n"
+#define GROW_WORDS PROJECTIVE_GRID_GROW, 0x3eb33333, 0x3fc00000, 0x3fa00000, 0, 0
+#define FILL_WORDS PROJECTIVE_GRID_FILL, 0x3eb33333, 0x3fc00000, 0, 1, 0
+#define OTHER_GROW_WORDS PROJECTIVE_GRID_GROW, 0x3f000000, 0x40000000, 0x40400000, 0, 0
+#define OTHER_FILL_WORDS PROJECTIVE_GRID_FILL, 0x3f000000, 0x40000000, 0, 64, 0
+#define LOCAL_WORDS PROJECTIVE_GRID_LOCAL, 0x3f000000, 0x40000000, 0x3e800000, 7, 2
+
+#define AS_PLANT "(as plant)\n"
+#define AS_DEPOT "(as depot)\n"
+#define AS_DEALER "(as dealer)\n"
+#define PLANT PROJECTIVE_GRID_PLANT
+#define DEPOT PROJECTIVE_GRID_DEPOT
+#define DEALER PROJECTIVE_GRID_DEALER
+
+/* A frame of these lines from the fifth on is read; the places of the passes hold these words, and behind them what they held.
+ * Each buffer of the reader is also lent one place short: 111 places for passes are refused with 7, and 112 are not. */
+static void read_passes(struct call *c, const char *lines, size_t count, uint32_t expected[][PASS_WORDS]) {
+    struct call roled = *c;
+    static uint8_t right[sizeof frame];
+    memcpy(right, frame, sizeof frame);
+    roled.b[0].needed = (size_t)snprintf((char *)frame, sizeof frame, FRONT "%s", lines);
+    lengths(&roled);
+    check(out[1] == count, roled.name, "another number of passes than expected", lines);
+    for (size_t k = 0; k < count; k++)
+        check(!memcmp(passes + PASS_WORDS * k, expected[k], sizeof expected[k]), roled.name, "another pass or role than expected", lines);
+    for (size_t k = 0; k < roled.count; k++)
+        if (roled.b[k].start == passes)
+            check(same(&roled.b[k], PASS_WORDS * count), roled.name, "a place behind the words of the last pass was changed", lines);
+    restore(roled.b, roled.count);
+    memcpy(frame, right, sizeof frame);
+}
+
+/* Each role with each form, read or refused with 10 at the line of the pass; and roles from pass to pass. */
+static void roles(struct call *c) {
+    static const char *as[] = {AS_PLANT, AS_DEPOT, AS_DEALER};
+    static const struct { const char *line; uint32_t words[PASS_WORDS - 1], last; } forms[] = {
+        {GROW, {GROW_WORDS}, DEALER}, {FILL, {FILL_WORDS}, DEALER},
+        {FULL_GROW, {GROW_WORDS}, DEPOT}, {FULL_FILL, {FILL_WORDS}, DEPOT},
+        {OTHER_GROW, {OTHER_GROW_WORDS}, DEPOT}, {OTHER_FILL, {OTHER_FILL_WORDS}, DEPOT},
+        {LOCAL, {LOCAL_WORDS}, PLANT},
+    };
+    for (uint32_t role = PLANT; role <= DEALER; role++)
+        for (size_t k = 0; k < sizeof forms / sizeof forms[0]; k++) {
+            char lines[512];
+            uint32_t words[1][PASS_WORDS];
+            memcpy(words[0], forms[k].words, sizeof forms[k].words);
+            words[0][PROJECTIVE_GRID_PASS_ROLE] = role;
+            if (role <= forms[k].last) {
+                snprintf(lines, sizeof lines, "%s%s", as[role], forms[k].line);
+                read_passes(c, lines, 1, words);
+            } else {
+                int length = snprintf(lines, sizeof lines, FRONT "%s%s", as[role], forms[k].line);
+                read_refused(c, lines, (size_t)length, PROJECTIVE_GRID_NOT_PERMITTED, 6);
+            }
+        }
+    read_passes(c, CORNER, 0, 0);
+    /* without an as line it is the plant; a line holds until the next one, which may say the same */
+    read_passes(c, CORNER GROW LOCAL AS_DEALER FILL GROW AS_DEPOT FULL_GROW FILL OTHER_FILL AS_PLANT LOCAL GROW AS_PLANT FILL, 10,
+                (uint32_t[][PASS_WORDS]){{GROW_WORDS, PLANT}, {LOCAL_WORDS, PLANT}, {FILL_WORDS, DEALER}, {GROW_WORDS, DEALER},
+                                         {GROW_WORDS, DEPOT}, {FILL_WORDS, DEPOT}, {OTHER_FILL_WORDS, DEPOT},
+                                         {LOCAL_WORDS, PLANT}, {GROW_WORDS, PLANT}, {FILL_WORDS, PLANT}});
+    /* the most passes, an as line before each: every place that is needed is written */
+    uint32_t all[PASSES][PASS_WORDS];
+    for (size_t k = 0; k < PASSES; k++)
+        memcpy(all[k], (uint32_t[PASS_WORDS]){FILL_WORDS, k % 2 ? DEALER : DEPOT}, sizeof all[k]);
+    read_passes(c, CORNER FOUR(AS_DEPOT FULL_FILL AS_DEALER FILL) FOUR(AS_DEPOT FILL AS_DEALER FILL), PASSES, all);
+}
 
 static void reader(struct call *c) {
     static char long_text[sizeof frame];
@@ -332,13 +413,33 @@ static void reader(struct call *c) {
         {"(label 0 (0 0))\n(patch)\n(patch)\n", PROJECTIVE_GRID_MALFORMED, 8},
         {"(label 0 (0 0))\n(patch)\n(label 0 (64 0))\n", PROJECTIVE_GRID_OFF_SHEET, 8},
         {"(label 0 (0 0))\n(patch)\n(grow)", PROJECTIVE_GRID_MALFORMED, 8},
+        /* an as line, and behind it what is no pass, or one that its role may not run */
+        {AS_DEALER, PROJECTIVE_GRID_MALFORMED, 7},
+        {AS_DEALER AS_DEPOT GROW, PROJECTIVE_GRID_MALFORMED, 7},
+        {AS_PLANT SECOND_CORNER, PROJECTIVE_GRID_MALFORMED, 7},
+        {AS_DEPOT "(label 0 (0 0))\n", PROJECTIVE_GRID_MALFORMED, 7},
+        {"(label 0 (0 0))\n" AS_DEALER "(patch)\n", PROJECTIVE_GRID_MALFORMED, 8},
+        {AS_DEALER "(shade 0 0)\n", PROJECTIVE_GRID_MALFORMED, 7},
+        {AS_PLANT GROW "(label 0 (0 0))\n", PROJECTIVE_GRID_MALFORMED, 8},
+        {"(as Dealer)\n", PROJECTIVE_GRID_MALFORMED, 6},
+        {"(as)\n", PROJECTIVE_GRID_MALFORMED, 6},
+        {AS_DEALER "(local)\n", PROJECTIVE_GRID_MALFORMED, 7},
+        {AS_DEALER "(local 3f000000 40000000 7 3e800000 5)\n", PROJECTIVE_GRID_OUT_OF_RANGE, 7},
+        {AS_DEALER "(grow 7fc00000 3fc00000 3fa00000)\n", PROJECTIVE_GRID_OUT_OF_RANGE, 7},
+        {SIXTEEN(GROW) AS_DEALER LOCAL, PROJECTIVE_GRID_OVER_LIMIT, 23},
+        {SIXTEEN(GROW) AS_DEALER, PROJECTIVE_GRID_MALFORMED, 23},
+        {AS_DEALER GROW FILL LOCAL, PROJECTIVE_GRID_NOT_PERMITTED, 9},
+        {AS_DEALER GROW AS_DEPOT FULL_GROW FULL_FILL LOCAL, PROJECTIVE_GRID_NOT_PERMITTED, 11},
+        {AS_PLANT LOCAL AS_DEALER FULL_FILL, PROJECTIVE_GRID_NOT_PERMITTED, 9},
+        {"(label 0 (0 0))\n(patch)\n" AS_DEALER LOCAL, PROJECTIVE_GRID_NOT_PERMITTED, 9},
+        {"(label 0 (0 0))\n(patch)\n" AS_DEALER GROW, PROJECTIVE_GRID_NO_SHARED_CORNER, 7},
     };
     for (size_t k = 0; k < sizeof behind / sizeof behind[0]; k++) {
-        char lines[512];
-        int length = snprintf(lines, sizeof lines, "(frame 1)\n(cell 41200000)\n(axes (3f800000 00000000) (00000000 3f800000))\n"
-                              "(band 3e800000)\n(corner (41200000 41200000) 00000000)\n%s", behind[k].lines);
+        char lines[1024];
+        int length = snprintf(lines, sizeof lines, FRONT CORNER "%s", behind[k].lines);
         read_refused(c, lines, (size_t)length, behind[k].number, behind[k].line);
     }
+    roles(c);
     lengths(c);
     for (size_t k = 0; k < sizeof shades; k++)
         check(k < out[0] ? shades[k] <= PROJECTIVE_GRID_KIND_1 : shades[k] == UNTOUCHED, c->name,
@@ -415,7 +516,7 @@ int main(int count, char **arguments) {
 
     struct call reading = {"read_frame", call_read, 10,
                            {GIVEN(frame, frame_bytes), LENT(xs, 1024), LENT(ys, 1024), LENT(pitches, 1024), LENT(shades, 1024),
-                            LENT(sheet, 16384), LENT(around, BOX), LENT(passes, 96), LENT(settings, 6), LENT(out, 2)}};
+                            LENT(sheet, 16384), LENT(around, BOX), LENT(passes, 112), LENT(settings, 6), LENT(out, 2)}};
     made(&reading);
     reader(&reading);
     corners = out[0], pass_count = out[1];

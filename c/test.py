@@ -3,9 +3,10 @@
 
     c/test.py                 builds (c/build), then compares c/out/recover with crates/recover/out/recover byte for byte: the
                               example frames, the refused ones too, the frames of compare/, every text of
-                              compare/cases.py, refused ones included, and generated frames; where c/out/recover
-                              cannot read or write, it has to say so on standard error and end with status 1; then
-                              runs c/out/short on accepted frames (short buffers, refused values, every wrong label box)
+                              compare/cases.py, refused ones included, generated frames, and each role with each form
+                              of a pass, whose answers are known; where c/out/recover cannot read or write, it has to say
+                              so on standard error and end with status 1; then runs c/out/short on accepted frames (short
+                              buffers, refused values, every wrong label box, who runs which pass)
     c/test.py --frames N      N generated frames (default 1000), --seed S from another seed
     c/test.py --built         does not build first
 
@@ -31,6 +32,10 @@ import generate
 OURS = os.path.join(HERE, "out", "recover")
 SHORT = os.path.join(HERE, "out", "short")
 PROVED = os.path.join(ROOT, "crates", "recover", "out", "recover")
+# 01's example without its pass; and the forms of a pass, bare grow's and bare fill's numbers among them.
+ABOVE = cases.HEAD + cases.CORNERS + cases.LABELS
+FORMS = ["(grow)", "(fill)", "(grow 3eb33333 3fc00000 3fa00000)", "(fill 3eb33333 3fc00000 1)", "(grow 3f000000 3fc00000 40000000)",
+         "(fill 3f000000 3fc00000 2)", "(local 3eb33333 3fc00000 1 3e800000 1)"]
 
 
 class Comparison:
@@ -54,6 +59,23 @@ class Comparison:
         self.count += 1
         self.refused += expected.stdout.startswith(b"(refused")
         return expected.stdout
+
+    def compare_roles(self, frames):
+        """02, 6/14: each role with each form of a pass, refused with 10 at its line or answered as without the as line; and
+        accepted frames where a role stands in the place of one that may run less."""
+        for role in ("plant", "depot", "dealer"):
+            for form in FORMS:
+                may = role == "plant" or role == "depot" and not form.startswith("(local") or form in ("(grow)", "(fill)")
+                said = self.compare(f"{form} run by the {role}", cases.text(ABOVE + [f"(as {role})", form]))
+                wanted = self.compare(form, cases.text(ABOVE + [form])) if may else b"(refused 10 %d)\n" % (len(ABOVE) + 2)
+                if said != wanted:
+                    sys.exit(f"c/test.py: {form} run by the {role}: {said[:200]!r}, but asked is {wanted[:200]!r}")
+        for name, data in frames:
+            said = self.compare(name, data)
+            for role, higher in ((b"dealer", b"depot"), (b"dealer", b"plant"), (b"depot", b"plant")):
+                other = data.replace(b"\n(as %s)\n" % role, b"\n(as %s)\n" % higher)
+                if self.compare(f"{name}, the {higher.decode()} for the {role.decode()}", other) != said:
+                    sys.exit(f"c/test.py: {name}: another answer where the {higher.decode()} stands for the {role.decode()}")
 
     def say(self, what):
         print(f"c/test.py: {what}: {self.count} texts, {self.refused} of them refused, all answers equal", flush=True)
@@ -113,26 +135,31 @@ def main():
     for path, built in ((PROVED, "rt run in crates/recover"), (OURS, "c/build"), (SHORT, "c/build")):
         if not os.path.exists(path):
             sys.exit(f"c/test.py: {os.path.relpath(path, ROOT)} is missing: {built} builds it")
-    accepted = []
+    accepted, roled = [], []
     with tempfile.TemporaryDirectory() as folder:
         runs = Comparison(folder)
         for path in files():
             data = open(path, "rb").read()
-            if not runs.compare(os.path.relpath(path, ROOT), data).startswith(b"(refused") and with_corners(data):
-                accepted.append(path)
+            name = os.path.relpath(path, ROOT)
+            if not runs.compare(name, data).startswith(b"(refused"):
+                accepted += [path] * with_corners(data)
+                roled += [(name, data)] * (b"\n(as " in data)
         runs.say("frames of this repository")
         for name, data, _ in cases.cases():
             runs.compare(name, data)
         runs.say("compare/cases.py")
         for name, data in generate.frames(options.seed, options.frames):
-            runs.compare(name, data)
+            if not runs.compare(name, data).startswith(b"(refused"):
+                roled += [(name, data)] * (b"\n(as " in data)
         runs.say(f"generated frames of seed {options.seed}")
+        runs.compare_roles(roled)
+        runs.say(f"each role with each form, and {len(roled)} frames with as lines, their roles changed")
         faults(folder)
     for path in accepted:
         done = subprocess.run([SHORT, path], capture_output=True, text=True, timeout=600)
         if done.returncode:
             sys.exit(f"c/test.py: {os.path.relpath(path, ROOT)}: {done.stdout[-2000:]}{done.stderr[-2000:]}{done.returncode}")
-    print(f"c/test.py: every buffer one place short and every wrong label box, on {len(accepted)} frames: {done.stdout.strip()} on the last")
+    print(f"c/test.py: every buffer one place short, every wrong label box and each role, on {len(accepted)} frames: {done.stdout.strip()} on the last")
 
 
 if __name__ == "__main__":

@@ -16,8 +16,8 @@ use crate::{MAX_CORNERS, MAX_PASSES};
 #[cfg(test)]
 mod tests;
 
-/// The words that say a pass.
-pub(crate) const PASS_WORDS: usize = 6;
+/// The words that say a pass, the last of them who runs it.
+pub(crate) const PASS_WORDS: usize = 7;
 /// The words that say what a pass did.
 pub(crate) const OUTCOME_WORDS: usize = 11;
 /// The lines of a result's text beside those of the passes: the first one, and three for each cell, most of them empty.
@@ -113,7 +113,7 @@ impl Corners {
 fn done(answer: u32) -> Result<(), Refusal> {
     match answer {
         0 => Ok(()),
-        n => Err(Refusal::from_number(n).expect("the library answers 0 to 9")),
+        n => Err(Refusal::from_number(n).expect("the library answers 0 to 10")),
     }
 }
 
@@ -209,7 +209,7 @@ fn local(c: &Corners, s: &Settings, p: &LocalParams, places: &mut [u16], around:
     }
 }
 
-/// A frame as it is read: its settings, corners and given labels, and six words for each pass.
+/// A frame as it is read: its settings, corners and given labels, and seven words for each pass.
 pub(crate) struct Read {
     pub(crate) settings: Settings,
     pub(crate) corners: Corners,
@@ -218,14 +218,18 @@ pub(crate) struct Read {
 }
 
 pub(crate) fn read_frame(text: &[u8]) -> Result<Read, RefusedFrame> {
+    read_lent(text, &mut [0; PASS_WORDS * MAX_PASSES])
+}
+
+/// The frame that is read where these places are lent for its passes.
+fn read_lent(text: &[u8], passes: &mut [u32]) -> Result<Read, RefusedFrame> {
     let room = || vec![0.0; MAX_CORNERS];
     let (mut xs, mut ys, mut pitches, mut shades) = (room(), room(), room(), vec![0; MAX_CORNERS]);
     let (mut sheet, mut around) = (Sheet::empty(), LabelBox::places(None));
     let places = sheet.places_mut();
-    let mut passes = vec![0; PASS_WORDS * MAX_PASSES];
     let (mut floats, mut out) = ([0.0; 6], [0; 2]);
-    // SAFETY: each start stands beside the length of the same slice. All that is written are different locals, and
-    // `text` is borrowed from elsewhere.
+    // SAFETY: each start stands beside the length of the same slice. All that is written are different locals and
+    // `passes`, which is borrowed mutably, and `text` is borrowed from elsewhere.
     #[rustfmt::skip]
     let answer = unsafe {
         projective_grid_read_frame(
@@ -243,13 +247,12 @@ pub(crate) fn read_frame(text: &[u8]) -> Result<Read, RefusedFrame> {
         list.truncate(corner_count as usize);
     }
     shades.truncate(corner_count as usize);
-    passes.truncate(PASS_WORDS * pass_count as usize);
     let [cell_size, i_x, i_y, j_x, j_y, edge_length_tol] = floats;
     Ok(Read {
         settings: Settings { cell_size, axis_i: [i_x, i_y], axis_j: [j_x, j_y], edge_length_tol },
         corners: Corners { xs, ys, pitches, shades },
         sheet,
-        passes,
+        passes: passes[..PASS_WORDS * pass_count as usize].to_vec(),
     })
 }
 

@@ -1,12 +1,49 @@
 //! A frame, and what comes of it.
 use crate::calls;
 use crate::{FillParams, GrowParams, LocalParams, Pass, PassOutcome, Recovery, RefusedFrame, Sheet};
+use std::fmt;
 
-/// An accepted frame: corners, settings, given labels and passes.
+/// Who runs a pass of a frame.
+#[derive(Clone, Copy, Debug, PartialEq, Eq, Hash)]
+pub enum Role {
+    /// The plant, who may run all.
+    Plant = 0,
+    /// A depot, who may run any grow and any fill.
+    Depot = 1,
+    /// A dealer, who may run a bare grow and a bare fill.
+    Dealer = 2,
+}
+
+impl Role {
+    const ALL: [Role; 3] = [Role::Plant, Role::Depot, Role::Dealer];
+
+    /// Its number, 0 to 2.
+    pub fn number(self) -> u32 {
+        self as u32
+    }
+
+    /// Its name, as an as line has it: `plant`, `depot` or `dealer`.
+    pub fn name(self) -> &'static str {
+        match self {
+            Role::Plant => "plant",
+            Role::Depot => "depot",
+            Role::Dealer => "dealer",
+        }
+    }
+}
+
+impl fmt::Display for Role {
+    fn fmt(&self, f: &mut fmt::Formatter<'_>) -> fmt::Result {
+        f.write_str(self.name())
+    }
+}
+
+/// An accepted frame: corners, settings, given labels, passes and who runs each.
 #[derive(Clone, Debug)]
 pub struct Frame {
     start: Recovery,
     passes: Vec<Pass>,
+    roles: Vec<Role>,
 }
 
 fn pass(words: &[u32]) -> Pass {
@@ -32,13 +69,19 @@ fn pass(words: &[u32]) -> Pass {
     }
 }
 
+fn role(words: &[u32]) -> Role {
+    Role::ALL[words[6] as usize]
+}
+
 impl Frame {
     /// Reads a frame.
     pub fn parse(text: &[u8]) -> Result<Frame, RefusedFrame> {
         let read = calls::read_frame(text)?;
+        let passes = read.passes.chunks_exact(calls::PASS_WORDS);
         Ok(Frame {
             start: Recovery::of_parts(read.settings, read.corners, read.sheet),
-            passes: read.passes.chunks_exact(calls::PASS_WORDS).map(pass).collect(),
+            passes: passes.clone().map(pass).collect(),
+            roles: passes.map(role).collect(),
         })
     }
 
@@ -50,6 +93,12 @@ impl Frame {
     /// Its passes, in order.
     pub fn passes(&self) -> &[Pass] {
         &self.passes
+    }
+
+    /// Who runs each of its passes, in order. A frame is refused by [`Refusal::NotPermitted`](crate::Refusal::NotPermitted)
+    /// if a pass is not open to its role; nothing that is run or printed depends on who runs it.
+    pub fn roles(&self) -> &[Role] {
+        &self.roles
     }
 
     /// Runs its passes.

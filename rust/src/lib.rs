@@ -28,7 +28,7 @@ mod recovery;
 mod refusal;
 mod sheet;
 
-pub use frame::{Frame, Outcome};
+pub use frame::{Frame, Outcome, Role};
 pub use recovery::{Corner, FillOutcome, FillParams, GrowOutcome, GrowParams, Kind};
 pub use recovery::{LocalOutcome, LocalParams, Pass, PassOutcome, Recovery, Settings};
 pub use refusal::{Refusal, RefusedFrame};

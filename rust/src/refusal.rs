@@ -25,10 +25,12 @@ pub enum Refusal {
     NoSharedCorner = 8,
     /// 9, "clash": no shift of a frame's second set gives every shared corner one cell and every cell one corner.
     PatchesClash = 9,
+    /// 10, "not yours": a frame has a pass that its role may not run. The calls of a pass know no role.
+    NotPermitted = 10,
 }
 
 impl Refusal {
-    const ALL: [Refusal; 9] = [
+    const ALL: [Refusal; 10] = [
         Refusal::Malformed,
         Refusal::OverLimit,
         Refusal::OutOfRange,
@@ -38,19 +40,20 @@ impl Refusal {
         Refusal::BufferTooShort,
         Refusal::NoSharedCorner,
         Refusal::PatchesClash,
+        Refusal::NotPermitted,
     ];
 
-    /// The refusal of this number, 1 to 9.
+    /// The refusal of this number, 1 to 10.
     pub fn from_number(number: u32) -> Option<Refusal> {
         Self::ALL.into_iter().find(|r| r.number() == number)
     }
 
-    /// Its number, 1 to 9.
+    /// Its number, 1 to 10.
     pub fn number(self) -> u32 {
         self as u32
     }
 
-    /// The word for it: the specification's or, for 8 and 9, which have none there, ours.
+    /// The word for it: the specification's, for 10 the request's or, for 8 and 9, which have none there, ours.
     pub fn word(self) -> &'static str {
         match self {
             Refusal::Malformed => "bent",
@@ -62,6 +65,7 @@ impl Refusal {
             Refusal::BufferTooShort => "short",
             Refusal::NoSharedCorner => "apart",
             Refusal::PatchesClash => "clash",
+            Refusal::NotPermitted => "not yours",
         }
     }
 }
@@ -78,6 +82,7 @@ impl fmt::Display for Refusal {
             Refusal::BufferTooShort => "a lent buffer is too short",
             Refusal::NoSharedCorner => "no corner is in both sets of labels",
             Refusal::PatchesClash => "no shift gives each shared corner one cell and each cell one corner",
+            Refusal::NotPermitted => "a pass may not be run by its role",
         })
     }
 }

@@ -105,6 +105,8 @@ fn each_refusal() {
     expect(format!("{HEAD}{ROW}(patch)\n(label 0 (5 5))\n(label 0 (6 5))\n"), Refusal::Duplicate, 12);
     expect(format!("{HEAD}{ROW}(patch)\n(patch)\n"), Refusal::Malformed, 11);
     expect(format!("{HEAD}{ROW}(patch)\n(grow)"), Refusal::Malformed, 11);
+    expect(format!("{HEAD}{ROW}(as dealer)\n"), Refusal::Malformed, 11);
+    expect(format!("{HEAD}{ROW}(as dealer)\n(grow 3eb33333 3fc00000 3fa00000)\n"), Refusal::NotPermitted, 11);
 
     let bent = refused(String::new());
     assert_eq!(bent.text(), b"(refused 1 1)\n");
@@ -113,9 +115,10 @@ fn each_refusal() {
 
 #[test]
 fn numbers_and_words() {
-    let words: Vec<_> = (0..11).map(|n| Refusal::from_number(n).map(|r| (r.number(), r.word()))).collect();
-    let table = ["bent", "overfull", "wild", "off sheet", "stranger", "doubled", "short", "apart", "clash"];
-    assert_eq!((words[0], words[10]), (None, None));
+    let words: Vec<_> = (0..12).map(|n| Refusal::from_number(n).map(|r| (r.number(), r.word()))).collect();
+    let table =
+        ["bent", "overfull", "wild", "off sheet", "stranger", "doubled", "short", "apart", "clash", "not yours"];
+    assert_eq!((words[0], words[11]), (None, None));
     for (n, word) in (1..).zip(table) {
         assert_eq!(words[n as usize], Some((n, word)));
     }

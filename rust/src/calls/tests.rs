@@ -1,7 +1,8 @@
-//! Every wrong label box, handed to each pass, below the types that keep the right one: any sheet, number of corners and places.
-use super::{lent, pass, Corners, Done};
+//! Below the types: every wrong label box, handed to each pass, with any sheet, number of corners and places; and the places
+//! that the reader is lent for passes, every one of them.
+use super::{lent, pass, read_lent, Corners, Done};
 use crate::sheet::PLACES;
-use crate::{Corner, FillParams, GrowParams, LocalParams, Pass, Settings, MAX_CORNERS};
+use crate::{Corner, FillParams, GrowParams, LocalParams, Pass, Refusal, RefusedFrame, Settings, MAX_CORNERS};
 
 const SETTINGS: Settings = Settings { cell_size: 10.0, axis_i: [1.0, 0.0], axis_j: [0.0, 1.0], edge_length_tol: 0.25 };
 const LOCAL: LocalParams =
@@ -141,4 +142,64 @@ fn right_boxes() {
     }
     // Grow attaches corners 1 and 3 there.
     assert_eq!(answer(CORNERS, &passes()[0], &labelled(), &[0, 0, 2, 0, 0]).2, [0, 0, 3, 0, 0]);
+}
+
+/// The front of a frame; its fifth line is a pass or an as line.
+const HEAD: &str = "(frame 1)\n(cell 41200000)\n(axes (3f800000 00000000) (00000000 3f800000))\n(band 3e800000)\n";
+/// More places than any frame needs.
+const MANY: [u32; 115] = [77; 115];
+
+/// The words of a bare grow, a bare fill and a local pass that this role runs.
+fn words(role: u32) -> [[u32; 7]; 3] {
+    [
+        [0, 0x3eb3_3333, 0x3fc0_0000, 0x3fa0_0000, 0, 0, role],
+        [1, 0x3eb3_3333, 0x3fc0_0000, 0, 1, 0, role],
+        [2, 0x3f00_0000, 0x4000_0000, 0x3e80_0000, 7, 2, role],
+    ]
+}
+
+#[test]
+fn seven_words_for_each_pass() {
+    let [grow, fill, local] = ["(grow)\n", "(fill)\n", "(local 3f000000 40000000 7 3e800000 2)\n"];
+    let full = "(as dealer)\n(fill)\n(as plant)\n(fill)\n".repeat(8);
+    let [plant, depot, dealer] = [0, 1, 2].map(words);
+    let frames = [
+        (String::new(), vec![]),
+        ([grow, fill, local].concat(), plant.to_vec()),
+        ([grow, "(as dealer)\n", grow, fill].concat(), vec![plant[0], dealer[0], dealer[1]]),
+        (
+            ["(as depot)\n", fill, grow, "(as plant)\n", local, "(as dealer)\n", fill].concat(),
+            vec![depot[1], depot[0], plant[2], dealer[1]],
+        ),
+        (full, [dealer[1], plant[1]].repeat(8)),
+    ];
+    for (lines, expected) in frames {
+        let (text, expected) = (format!("{HEAD}{lines}"), expected.concat());
+        for count in [112, 115] {
+            let mut places = MANY;
+            let read = read_lent(text.as_bytes(), &mut places[..count]).expect("accepted");
+            assert_eq!(read.passes, expected, "{lines}");
+            let (written, left) = places.split_at(expected.len());
+            assert_eq!(written, expected, "{lines}");
+            assert!(left.iter().all(|&place| place == 77), "{lines}: {left:?}");
+        }
+        for count in [0, 1, 7, 96, 111] {
+            let mut places = MANY;
+            let refused = read_lent(text.as_bytes(), &mut places[..count]).err();
+            assert_eq!(refused, Some(RefusedFrame { refusal: Refusal::BufferTooShort, line: 0 }), "{lines}");
+            assert_eq!(places, MANY, "{lines}");
+        }
+    }
+}
+
+#[test]
+fn a_refused_frame_has_no_words() {
+    let (bare, written_out) = ("(as dealer)\n(grow)\n", "(grow 3eb33333 3fc00000 3fa00000)\n");
+    let not_yours = format!("{bare}{written_out}");
+    for (lines, number, line) in [("(as dealer)\n", 1, 6), (&not_yours, 10, 7), ("(as depot)\n(local)\n", 1, 6)] {
+        let mut places = MANY;
+        let refused = read_lent(format!("{HEAD}{lines}").as_bytes(), &mut places).err().expect("refused");
+        assert_eq!((refused.refusal.number(), refused.line), (number, line), "{lines}");
+        assert_eq!(places, MANY, "{lines}");
+    }
 }
