@@ -1,7 +1,8 @@
 #!/usr/bin/env python3
 """Frames that try the reader and the printer: every refusal, the order of the
 checks, exact limits, damage, shades (02, 1/14), bare grow (02, 2/14), two patches
-(02, 3/14), roles (02, 6/14), and results longer than the output buffer.
+(02, 3/14), roles (02, 6/14) and their counts (02, 7/14), and results longer than
+the output buffer.
 
     cases.py               checks reference.py against the refusals written here
     cases.py --out FOLDER  writes each case as NAME.frame and NAME.result
@@ -14,6 +15,7 @@ reference.py.
 import argparse
 import os
 import random
+import re
 
 import generate
 import reference
@@ -43,9 +45,17 @@ SHADED = HEAD + CORNERS + LABELS + SHADES + PASSES + [LOCAL]
 SECOND = ["(label 0 (5 -3))", "(label 1 (6 -3))"]
 PATCHED = HEAD + CORNERS + LABELS[:1] + ["(patch)"] + SECOND + SHADES + PASSES + [LOCAL]
 
-# By hand: 01's result of its example, and that of the example where corner 2 is no candidate.
+# By hand: the role lines of a result whose passes count nothing; 01's result of its example with the role lines that 02, 7/14,
+# says there, and that of the example where corner 2 is no candidate.
+NO_COUNTS = """(role plant 0 0 0 0)
+(role depot 0 0 0 0)
+(role dealer 0 0 0 0)
+"""
 TAKEN = """(result 1)
 (grow 1 8 0 0 no)
+(role plant 1 8 0 0)
+(role depot 0 0 0 0)
+(role dealer 0 0 0 0)
 (cell (0 0) 0)
 (cell (1 0) 1)
 (cell (2 0) 2)
@@ -60,6 +70,9 @@ TAKEN = """(result 1)
 """
 NOT_TAKEN = """(result 1)
 (grow 0 6 0 0 no)
+(role plant 0 6 0 0)
+(role depot 0 0 0 0)
+(role dealer 0 0 0 0)
 (cell (0 0) 0)
 (cell (1 0) 1)
 (hole (-1 0))
@@ -84,6 +97,13 @@ MOST_BYTES = 65536  # of a frame
 
 def text(lines):
     return "".join(line + "\n" for line in lines).encode()
+
+
+def run_by(role, result):
+    """The result whose passes are the plant's, with another role in its place."""
+    line = result.split("(role plant ")[1].split("\n")[0]
+    ours = NO_COUNTS.replace(f"{role[4:-1]} 0 0 0 0)", f"{role[4:-1]} {line}")
+    return result.replace(NO_COUNTS.replace("plant 0 0 0 0)", f"plant {line}"), ours)
 
 
 def refused(number, line):
@@ -357,11 +377,11 @@ def whole_shades():
     yield "shade-other-kind", text(front + ["(shade 2 1)"] + PASSES), NOT_TAKEN
     yield "shade-on-label-only", text(front + ["(shade 0 0)"] + PASSES), NOT_TAKEN
     yield "shade-on-label-only-other", text(front + ["(shade 0 1)"] + PASSES), NOT_TAKEN
-    yield "shade-no-labels", text(HEAD + CORNERS + ["(shade 1 0)"] + PASSES), "(result 1)\n(grow 0 0 0 0 no)\n"
-    yield "shade-no-passes", text(front + SHADES), "(result 1)\n(cell (0 0) 0)\n(cell (1 0) 1)\n"
+    yield "shade-no-labels", text(HEAD + CORNERS + ["(shade 1 0)"] + PASSES), "(result 1)\n(grow 0 0 0 0 no)\n" + NO_COUNTS
+    yield "shade-no-passes", text(front + SHADES), f"(result 1)\n{NO_COUNTS}(cell (0 0) 0)\n(cell (1 0) 1)\n"
     local = "(local 0 0 0 0 0 none no)\n(unmatched 0)\n"
-    yield "shade-local-few-labels", text(front + SHADES + [LOCAL]), f"(result 1)\n{local}(cell (0 0) 0)\n(cell (1 0) 1)\n"
-    yield "shade-local-16", text(front + SHADES + [LOCAL] * 16), f"(result 1)\n{local * 16}(cell (0 0) 0)\n(cell (1 0) 1)\n"
+    yield "shade-local-few-labels", text(front + SHADES + [LOCAL]), f"(result 1)\n{local}{NO_COUNTS}(cell (0 0) 0)\n(cell (1 0) 1)\n"
+    yield "shade-local-16", text(front + SHADES + [LOCAL] * 16), f"(result 1)\n{local * 16}{NO_COUNTS}(cell (0 0) 0)\n(cell (1 0) 1)\n"
     yield "shade-falling", text(front + ["(shade 2 0)", "(shade 1 1)", "(shade 0 0)"] + PASSES), TAKEN
     square = [corner(x, "41a00000") for x in ("41200000", "41a00000", "41f00000")]
     labels = ["(label 3 (0 1))", "(label 4 (1 1))"]
@@ -400,6 +420,7 @@ def bare_grow():
         yield f"grow-old-{name}", text(front + [full("40000000")]), wide
     # Each line has its own meaning: the second grow finds the corner, and the hole of the first stays.
     both = TAKEN.replace("(grow 1 8", "(grow 0 6 0 0 no)\n(grow 1 8").replace("(hole (2 1))\n", "(hole (2 0))\n(hole (2 1))\n")
+    both = both.replace("(role plant 1 8", "(role plant 1 14")
     front = HEAD + CORNERS[:2] + [corner("41f00000", "41700000")] + LABELS
     yield "grow-bare-then-old", text(front + ["(grow)", full("40000000")]), both
 
@@ -417,7 +438,7 @@ def patched(first, second, rest=(), corners=CORNERS):
 def given(labels):
     """The result of a frame without passes: its labels (corner, i, j)."""
     cells = sorted((i, j, n) for n, i, j in labels)
-    return "(result 1)\n" + "".join(f"(cell ({i} {j}) {n})\n" for i, j, n in cells)
+    return f"(result 1)\n{NO_COUNTS}" + "".join(f"(cell ({i} {j}) {n})\n" for i, j, n in cells)
 
 
 ONE, TWO = [(0, 0, 0)], [(0, 0, 0), (1, 1, 0)]
@@ -633,19 +654,27 @@ def told(*passes, shades=()):
     """By hand: the result of FRONT with these passes, and as lines among them. The
     first grow or fill finds corner 2 at (2, 0), where it is expected; after that no
     corner is free. Grow looks at the 8 cells around these three and finds nothing
-    there, and local has fewer than 4 labels."""
-    lines, found, marked = [], False, False
+    there, and local has fewer than 4 labels. So a role has attached 1 if it ran the
+    first of these, and 8 cells without a candidate for each of its grows."""
+    lines, found, marked, role = [], False, False, "plant"
+    new, grown = dict.fromkeys(("plant", "depot", "dealer"), 0), dict.fromkeys(("plant", "depot", "dealer"), 0)
     for line in passes:
         kind = line.strip("()").split(" ")[0]
-        if kind == "grow":
+        if kind == "as":
+            role = line[4:-1]
+        elif kind == "grow":
             lines.append("(grow 0 8 0 0 no)" if found else "(grow 1 8 0 0 no)")
+            new[role] += not found
+            grown[role] += 1
             found = marked = True
         elif kind == "fill":
             lines.append("(fill 0 1 no)" if found else "(fill 1 1 no)")
+            new[role] += not found
             found = True
         elif kind == "local":
             lines.append("(local 0 0 0 0 0 none no)")
             lines += ["(unmatched 0)"] * (len(shades) > 0)
+    lines += [f"(role {role} {new[role]} {8 * grown[role]} 0 0)" for role in new]
     lines += ["(cell (0 0) 0)", "(cell (1 0) 1)"] + ["(cell (2 0) 2)"] * found
     if marked:
         lines += [f"(hole ({i} {j}))" for i, j in ((-1, 0), (0, -1), (0, 1), (1, -1), (1, 1), (2, -1), (2, 1), (3, 0))]
@@ -657,10 +686,10 @@ def who_may_run():
     forms = {"grow": "(grow)", "fill": "(fill)", "full-grow": GROW, "full-fill": FILL, "local": LOCAL}
     for role, may in (("dealer", "yynnn"), ("depot", "yyyyn"), ("plant", "yyyyy")):
         for (name, line), answer in zip(forms.items(), may):
-            yield f"as-{role}-{name}", text(FRONT + [f"(as {role})", line]), told(line) if answer == "y" else refused(10, 11)
+            yield f"as-{role}-{name}", text(FRONT + [f"(as {role})", line]), told(f"(as {role})", line) if answer == "y" else refused(10, 11)
     for name, line in forms.items():
         yield f"as-none-{name}", text(FRONT + [line]), told(line)
-    yield "as-each", text(ROLED), told("(grow)", FILL, LOCAL)
+    yield "as-each", text(ROLED), told(*ROLED[9:])
     # Bare is the text: the numbers of bare grow, written out, in any way that has their values.
     yield "as-dealer-old-grow", text(FRONT + [DEALER, "(grow 3eb33333 3fc00000 40000000)"]), refused(10, 11)
     yield "as-dealer-other-fill", text(FRONT + [DEALER, "(fill 3eb33333 3fc00000 2)"]), refused(10, 11)
@@ -670,7 +699,7 @@ def who_may_run():
     for name, y, answer in (("by-4.375", "41660000", TAKEN), ("past-4.375", "41660001", NOT_TAKEN)):
         for role in ROLES:
             front = HEAD + CORNERS[:2] + [corner("41f00000", y)] + LABELS
-            yield f"as-{role[4:-1]}-bare-{name}", text(front + [role, "(grow)"]), answer
+            yield f"as-{role[4:-1]}-bare-{name}", text(front + [role, "(grow)"]), run_by(role, answer)
 
 
 WILD_PASSES = {
@@ -729,9 +758,9 @@ def order_of_roles():
         yield f"as-{name}", text(sixteen + lines), refused(number, line)
     yield "as-17-no-lf", text(sixteen + [PLANT]) + b"(grow)", refused(1, 27)
     # As lines are no passes.
-    yield "as-16-passes", text(FRONT + [DEALER, "(grow)"] * 16), told(*["(grow)"] * 16)
+    yield "as-16-passes", text(FRONT + [DEALER, "(grow)"] * 16), told(*[DEALER, "(grow)"] * 16)
     yield "as-17-passes", text(FRONT + [DEALER, "(grow)"] * 17), refused(2, 43)
-    yield "as-16-passes-one", text(FRONT + PASSES * 15 + [DEALER, "(fill)"]), told(*["(grow)"] * 15, "(fill)")
+    yield "as-16-passes-one", text(FRONT + PASSES * 15 + [DEALER, "(fill)"]), told(*["(grow)"] * 15, DEALER, "(fill)")
     yield "as-16-passes-last", text(FRONT + [DEALER] + PASSES * 15 + [LOCAL]), refused(10, 26)
     yield "as-bytes-65537", (text(HEAD + many_corners(1024)) + b"(as plant)\n(grow)\n" * 2000)[:65537], refused(2, 0)
     yield "as-bytes-65536", (text(HEAD + many_corners(1024)) + b"(as plant)\n(grow)\n" * 2000)[:65536], refused(2, 1062)
@@ -783,12 +812,12 @@ def misplaced_as_lines():
     for number in range(1, 5):
         yield f"as-in-heading-{number}", put_in(number, PLANT), refused(1, number)
         yield f"as-for-heading-{number}", changed(number, PLANT), refused(1, number)
-    none = "(result 1)\n(grow 0 0 0 0 no)\n"
+    none = "(result 1)\n(grow 0 0 0 0 no)\n" + NO_COUNTS
     yield "as-behind-band", text(HEAD + [DEALER, "(grow)"]), none
     yield "as-behind-band-10", text(HEAD + [DEALER, GROW]), refused(10, 6)
-    yield "as-behind-band-local", text(HEAD + [PLANT, LOCAL]), "(result 1)\n(local 0 0 0 0 0 none no)\n"
+    yield "as-behind-band-local", text(HEAD + [PLANT, LOCAL]), "(result 1)\n(local 0 0 0 0 0 none no)\n" + NO_COUNTS
     yield "as-behind-corners", text(HEAD + CORNERS + [DEPOT, GROW]), none
-    yield "as-behind-shades", text(FRONT + SHADES + [DEALER, "(grow)"]), told("(grow)")
+    yield "as-behind-shades", text(FRONT + SHADES + [DEALER, "(grow)"]), told(DEALER, "(grow)")
     yield "as-behind-shades-10", text(FRONT + SHADES + [DEPOT, LOCAL]), refused(10, 13)
     yield "as-behind-shades-local", text(FRONT + SHADES + [PLANT, LOCAL]), told(LOCAL, shades=SHADES)
     yield "as-before-corners", put_in(5, PLANT), refused(1, 6)
@@ -871,12 +900,11 @@ def almost_as_lines():
     yield "as-form-crlf", "\r\n".join(ROLED).encode() + b"\r\n", refused(1, 1)
     # Every truncation. Whole are the heading, each line behind it, and each pass behind an as line.
     whole_to = (4, 5, 6, 7, 8, 9, 11, 13, 15)
-    passes = ["(grow)", FILL, LOCAL]
     for size in range(len(text(ROLED))):
         cut = text(ROLED)[:size]
         number = cut.count(b"\n")
         if cut.endswith(b"\n") and number in whole_to:
-            answer = told(*passes[: max(number - 9, 0) // 2]) if number > 8 else None
+            answer = told(*ROLED[9:number]) if number > 8 else None
         else:
             answer = refused(1, number + 1)
         yield f"as-cut-{size}", cut, answer
@@ -905,14 +933,14 @@ def roles_and_joins():
     ):
         yield f"as-join-{name}", patched(*sets, lines), refused(number, line)
     joined = (ONE, [(0, 5, -3), (1, 6, -3)])
-    yield "as-joined", patched(*joined, [DEALER, "(grow)", DEPOT, FILL, PLANT, LOCAL]), told("(grow)", FILL, LOCAL)
+    yield "as-joined", patched(*joined, [DEALER, "(grow)", DEPOT, FILL, PLANT, LOCAL]), told(*ROLED[9:])
     yield "as-joined-10", patched(*joined, [DEALER, "(grow)", FILL]), refused(10, 14)
 
 
 def in_place_of_roles(data):
     """02, 6/14: the same frame with each dealer's line in turn, and with all of them,
     a depot's or the plant's, and without any as line. Where it is accepted, these are,
-    with the same result."""
+    with the same result but for its role lines (02, 7/14)."""
     parts = data.split(text([DEALER]))
     for role in (DEPOT, PLANT):
         for k in range(1, len(parts)):
@@ -920,6 +948,11 @@ def in_place_of_roles(data):
         if len(parts) > 2:
             yield text([role]).join(parts)
     yield b"".join(line for line in data.splitlines(keepends=True) if not line.startswith(b"(as "))
+
+
+def without_role_lines(result):
+    """A result but for them; a refusal as it is."""
+    return "".join(line for line in result.splitlines(keepends=True) if not line.startswith("(role "))
 
 
 def roles():
@@ -938,6 +971,218 @@ bent-dealer-bare-local bent-dealer-grow-two bent-depot-local-bracket 17 17-not-i
 plant-then-half behind-band behind-shades-local before-corners bare-then-label in-heading-4 form-upper form-two-spaces form-nothing form-owner
 form-cr join-8 join-10-before-8 join-10-before-9 join-10-before-4 joined
 """.split()
+
+
+# ---- counts for each role
+
+
+def counted(passes, roles, cells, holes=(), ambiguous=()):
+    """A whole result: its pass lines, the sums of each role that has any, and its
+    sheet. RESIDUAL stands for a residual, which no hand works out."""
+    lines = ["(result 1)"] + list(passes)
+    lines += [f"(role {role} {roles.get(role, '0 0 0 0')})" for role in ("plant", "depot", "dealer")]
+    lines += [f"(cell ({i} {j}) {n})" for i, j, n in cells]
+    lines += [f"(hole ({i} {j}))" for i, j in holes]
+    lines += [f"(ambiguous ({i} {j}))" for i, j in ambiguous]
+    return "".join(line + "\n" for line in lines)
+
+
+# Two labels. Where cell (2, 0) is expected lie two corners, at one distance; two more, 4 past where cells (-1, 0) and (0, 1) are
+# expected, have too long an edge. Every grow visits the six cells beside the labels.
+TWO_AT_2_0 = [corner("41f00000", "41100000"), corner("41f00000", "41300000")]
+MARKED = HEAD + CORNERS[:2] + TWO_AT_2_0 + [corner("c0800000"), corner("41200000", "41c00000")] + LABELS
+MARKED_GROW = "(grow 0 3 1 2 no)"
+MARKED_SHEET = [(0, 0, 0), (1, 0, 1)], [(-1, 0), (0, -1), (0, 1), (1, -1), (1, 1)], [(2, 0)]
+
+# Four labels, and a corner 4.5 past where cell (2, 0) is expected: neither fill's 3.5 nor bare grow's 4.375 reach it. Grow visits the
+# eight cells beside the labels, and local walks the twelve around them.
+SQUARE_CORNERS = CORNERS[:2] + [corner("41200000", "41a00000"), corner("41a00000", "41a00000")]
+SQUARE = HEAD + SQUARE_CORNERS + [corner("41f00000", "41680000")] + LABELS + ["(label 2 (0 1))", "(label 3 (1 1))"]
+SQUARE_CELLS = [(0, 0, 0), (0, 1, 2), (1, 0, 1), (1, 1, 3)]
+SQUARE_HOLES = [(-1, 0), (-1, 1), (0, -1), (0, 2), (1, -1), (1, 2), (2, 0), (2, 1)]
+WIDE_LOCAL = "(local 3f200000 3fc00000 1 3e800000 1)"  # reaches 6.25
+
+# The same with two corners for cell (2, 0), and 3 past where cells (-1, 0) and (0, 2) are expected two with too long an edge.
+DOUBTFUL = HEAD + SQUARE_CORNERS + TWO_AT_2_0 + [corner("c0400000"), corner("41200000", "42040000")] + SQUARE[-4:]
+DOUBTFUL_SHEET = SQUARE_CELLS, [(-1, 0), (-1, 1), (0, -1), (0, 2), (1, -1), (1, 2), (2, 1)], [(2, 0)]
+
+# 01's example with a corner more, 2 past where cell (0, 1) is expected: a narrow grow reaches only corner 2, a bare one the other too.
+NARROW = "(grow 3dcccccd 3fc00000 3fa00000)"
+NEAR = HEAD + CORNERS + [corner("41200000", "41b00000")] + LABELS
+NEAR_SHEET = (
+    [(0, 0, 0), (0, 1, 3), (1, 0, 1), (2, 0, 2)],
+    [(-1, 0), (-1, 1), (0, -1), (0, 1), (0, 2), (1, -1), (1, 1), (2, -1), (2, 1), (3, 0)],
+)
+
+# The corners of the sheet as labels, so that local walks all other cells.
+FAR = [corner(x, y) for x in ("00000000", "449ec000") for y in ("00000000", "449ec000")]
+ENDS = HEAD + FAR + [f"(label {2 * a + b} ({i} {j}))" for a, i in enumerate((-64, 63)) for b, j in enumerate((-64, 63))]
+ENDS_CELLS = [(-64, -64, 0), (-64, 63, 1), (63, -64, 2), (63, 63, 3)]
+
+
+def no_passes():
+    """The three lines stand in every result."""
+    for name, lines, answer in (
+        ("heading", HEAD, counted([], {}, [])),
+        ("corners", HEAD + CORNERS, counted([], {}, [])),
+        ("labels", FRONT, counted([], {}, [(0, 0, 0), (1, 0, 1)])),
+        ("shades", FRONT + SHADES, counted([], {}, [(0, 0, 0), (1, 0, 1)])),
+        ("square", SQUARE, counted([], {}, SQUARE_CELLS)),
+    ):
+        yield f"count-none-{name}", text(lines), answer
+    yield "count-none-patch", patched(TWO, [(1, 1, 9), (2, 2, 9)]), counted([], {}, [(0, 0, 0), (1, 0, 1), (2, 0, 2)])
+
+
+def one_role():
+    """Each role with each pass that it may run, once, twice and 16 times."""
+    # Of the square: attached, no candidate, ambiguous, edge of a first and of every later one.
+    grow, fill, local = "(grow 0 8 0 0 no)", "(fill 0 1 no)", "(local 1 11 0 0 1 RESIDUAL no)"
+    for role, forms in (("plant", ("(grow)", GROW, "(fill)", FILL)), ("depot", ("(grow)", GROW, "(fill)", FILL)), ("dealer", ("(grow)", "(fill)"))):
+        for k, form in enumerate(forms):
+            for times in (1, 2, 16):
+                if form.startswith("(grow"):
+                    answer = counted([grow] * times, {role: f"0 {8 * times} 0 0"}, SQUARE_CELLS, SQUARE_HOLES)
+                    marked = counted([MARKED_GROW] * times, {role: f"0 {3 * times} {times} {2 * times}"}, *MARKED_SHEET)
+                else:
+                    answer = counted([fill] * times, {}, SQUARE_CELLS)
+                    marked = counted([fill] * times, {}, MARKED_SHEET[0])
+                yield f"count-{role}-{k}-{times}", text(SQUARE + [f"(as {role})"] + [form] * times), answer
+                yield f"count-{role}-{k}-{times}-marked", text(MARKED + [f"(as {role})"] + [form] * times), marked
+    cells = SQUARE_CELLS + [(2, 0, 4)]
+    for name, before in (("", []), ("-as", [PLANT])):
+        yield f"count-local{name}", text(SQUARE + before + [WIDE_LOCAL]), counted([local], {"plant": "1 11 0 0"}, cells)
+    doubtful = "(local 0 9 1 2 1 RESIDUAL no)"
+    for times in (1, 2, 16):
+        answer = counted([doubtful] * times, {"plant": f"0 {9 * times} {times} {2 * times}"}, SQUARE_CELLS)
+        yield f"count-local-doubtful-{times}", text(DOUBTFUL + [LOCAL] * times), answer
+    whole = "(local 0 16380 0 0 1 RESIDUAL yes)"
+    for times in (4, 5, 16):  # the second is above 65,535
+        yield f"count-local-sheet-{times}", text(ENDS + [LOCAL] * times), counted([whole] * times, {"plant": f"0 {16380 * times} 0 0"}, ENDS_CELLS)
+    # Nothing is counted below 4 labels, and by no round.
+    yield "count-local-few", text(FRONT + [LOCAL] * 2), told(LOCAL, LOCAL)
+    none = LOCAL.replace(" 1 ", " 0 ", 1)
+    yield "count-local-no-round", text(SQUARE + [none]), counted(["(local 0 0 0 0 0 none no)"], {}, SQUARE_CELLS)
+
+
+def fill_alone():
+    """Fill adds to attached alone: neither its rounds nor the cells that it passes over."""
+    for role, line in (("plant", PLANT), ("depot", DEPOT)):
+        for rounds in (0, 1, 2, 64):
+            said = min(max(rounds, 1), 2)
+            form = f"(fill 3eb33333 3fc00000 {rounds})"
+            answer = counted([f"(fill 1 {said} no)"], {role: "1 0 0 0"}, [(0, 0, 0), (1, 0, 1), (2, 0, 2)])
+            yield f"count-fill-{role}-{rounds}", text(FRONT + [line, form]), answer
+            answer = counted(["(fill 0 1 no)"], {}, MARKED_SHEET[0])
+            yield f"count-fill-{role}-{rounds}-marked", text(MARKED + [line, form]), answer
+    cells = [(0, 0, 0), (1, 0, 1), (2, 0, 2)]
+    for name, lines, sums in (
+        ("dealer", [DEALER, "(fill)", "(fill)"], {"dealer": "1 0 0 0"}),
+        ("dealer-first", [DEALER, "(fill)", PLANT, "(fill)"], {"dealer": "1 0 0 0"}),
+        ("dealer-second", ["(fill)", DEALER, "(fill)"], {"plant": "1 0 0 0"}),
+        ("depot-last", ["(fill)", DEALER, "(fill)", DEPOT, FILL], {"plant": "1 0 0 0"}),
+    ):
+        passes = ["(fill 1 1 no)"] + ["(fill 0 1 no)"] * (sum(not line.startswith("(as ") for line in lines) - 1)
+        yield f"count-fill-{name}", text(FRONT + lines), counted(passes, sums, cells)
+
+
+def more_roles():
+    """Passes of several roles; all passes of one role add up, wherever they stand."""
+    twice = ["(grow 1 8 0 0 no)", "(grow 1 9 0 0 no)"]
+    for name, lines, sums in (
+        ("plant", [NARROW, "(grow)"], {"plant": "2 17 0 0"}),
+        ("depot", [DEPOT, NARROW, GROW], {"depot": "2 17 0 0"}),
+        ("depot-again", [DEPOT, NARROW, DEPOT, "(grow)"], {"depot": "2 17 0 0"}),
+        ("plant-dealer", [NARROW, DEALER, "(grow)"], {"plant": "1 8 0 0", "dealer": "1 9 0 0"}),
+        ("depot-plant", [DEPOT, NARROW, PLANT, GROW], {"plant": "1 9 0 0", "depot": "1 8 0 0"}),
+        ("depot-dealer", [DEPOT, NARROW, DEALER, "(grow)"], {"depot": "1 8 0 0", "dealer": "1 9 0 0"}),
+    ):
+        yield f"count-near-{name}", text(NEAR + lines), counted(twice, sums, *NEAR_SHEET)
+    for name, lines, sums in (
+        ("each", [DEALER, "(grow)", "(grow)", DEPOT, GROW, PLANT, GROW, GROW, "(grow)"],
+         {"plant": "0 9 3 6", "depot": "0 3 1 2", "dealer": "0 6 2 4"}),
+        ("apart", ["(grow)", DEALER, "(grow)", PLANT, "(grow)"], {"plant": "0 6 2 4", "dealer": "0 3 1 2"}),
+        ("back", [DEPOT, GROW, DEALER, "(grow)", DEPOT, GROW, DEALER, "(grow)"], {"depot": "0 6 2 4", "dealer": "0 6 2 4"}),
+        ("16", [DEALER, "(grow)", DEPOT, GROW, PLANT, GROW] * 5 + [DEPOT, "(grow)"],
+         {"plant": "0 15 5 10", "depot": "0 18 6 12", "dealer": "0 15 5 10"}),
+        ("16-dealer-last", [GROW] * 15 + [DEALER, "(grow)"], {"plant": "0 45 15 30", "dealer": "0 3 1 2"}),
+        ("16-dealer-first", [DEALER, "(grow)", PLANT] + [GROW] * 15, {"plant": "0 45 15 30", "dealer": "0 3 1 2"}),
+    ):
+        passes = [MARKED_GROW] * sum(not line.startswith("(as ") for line in lines)
+        yield f"count-marked-{name}", text(MARKED + lines), counted(passes, sums, *MARKED_SHEET)
+    # A dealer's grow and fill, then the plant's local, which attaches the corner that they did not reach.
+    local, cells = "(local 1 11 0 0 1 RESIDUAL no)", SQUARE_CELLS + [(2, 0, 4)]
+    first = ["(grow 0 8 0 0 no)", "(fill 0 1 no)"]
+    holes = [hole for hole in SQUARE_HOLES if hole != (2, 0)]  # local clears its cell
+    lines = [DEALER, "(grow)", "(fill)", PLANT, WIDE_LOCAL]
+    yield "count-dealer-local", text(SQUARE + lines), counted(first + [local], {"plant": "1 11 0 0", "dealer": "0 8 0 0"}, cells, holes)
+    # No corner is free then; a grow has nine cells beside the five labels.
+    holes = sorted(holes + [(2, -1), (3, 0)])
+    sums = {"plant": "1 11 0 0", "dealer": "0 17 0 0"}
+    yield "count-dealer-local-dealer", text(SQUARE + lines + [DEALER, "(grow)"]), counted(first + [local, "(grow 0 9 0 0 no)"], sums, cells, holes)
+    doubtful = ["(grow 0 5 1 2 no)", "(local 0 9 1 2 1 RESIDUAL no)"]
+    for name, lines, sums in (
+        ("depot", [DEPOT, GROW, PLANT, LOCAL], {"plant": "0 9 1 2", "depot": "0 5 1 2"}),
+        ("dealer", [DEALER, "(grow)", PLANT, LOCAL], {"plant": "0 9 1 2", "dealer": "0 5 1 2"}),
+        ("plant", [GROW, LOCAL], {"plant": "0 14 2 4"}),
+    ):
+        yield f"count-doubtful-{name}", text(DOUBTFUL + lines), counted(doubtful, sums, *DOUBTFUL_SHEET)
+
+
+def shaded_counts():
+    """Behind the unmatched line, before the cells; unmatched is not summed."""
+    other = ["(shade 4 1)"]  # cell (2, 0), where the corner is expected, takes kind 0
+    local = ["(local 0 12 0 0 1 RESIDUAL no)", "(unmatched 1)"]
+    corners = HEAD + SQUARE_CORNERS + [corner("41f00000")] + SQUARE[-4:]
+    for times in (1, 2, 16):
+        answer = counted(local * times, {"plant": f"0 {12 * times} 0 0"}, SQUARE_CELLS)
+        yield f"count-shaded-{times}", text(corners + other + [LOCAL] * times), answer
+    own = ["(local 1 11 0 0 1 RESIDUAL no)", "(unmatched 0)"]
+    yield "count-shaded-own", text(corners + ["(shade 4 0)", LOCAL]), counted(own, {"plant": "1 11 0 0"}, SQUARE_CELLS + [(2, 0, 4)])
+    lines = [DEALER, "(grow)", PLANT, LOCAL, DEPOT, FILL]
+    passes = ["(grow 0 8 0 0 no)"] + local + ["(fill 0 1 no)"]
+    sums = {"plant": "0 12 0 0", "dealer": "0 8 0 0"}
+    yield "count-shaded-roles", text(corners + other + lines), counted(passes, sums, SQUARE_CELLS, SQUARE_HOLES)
+    yield "count-shaded-last", text(corners + other + lines[:4]), counted(passes[:3], sums, SQUARE_CELLS, SQUARE_HOLES)
+    few = ["(local 0 0 0 0 0 none no)", "(unmatched 0)"]
+    yield "count-shaded-few", text(FRONT + SHADES + [LOCAL]), counted(few, {}, [(0, 0, 0), (1, 0, 1)])
+
+
+def patched_counts():
+    """The given labels are those of the union, a corner in both sets once: none of them is counted."""
+    lines = [DEALER, "(grow)", DEPOT, FILL, PLANT, LOCAL]
+    for name, first, second in (
+        ("one", ONE, [(0, 5, -3), (1, 6, -3)]),
+        ("both", TWO, [(0, 5, -3), (1, 6, -3)]),
+        ("other", [(1, 1, 0)], [(1, 0, 0), (0, -1, 0)]),
+        ("second-inside", TWO, [(1, 9, 9)]),
+    ):
+        yield f"count-patch-{name}", patched(first, second, lines), told(*lines)
+    none = ["(grow 0 8 0 0 no)", "(fill 0 1 no)", "(local 0 0 0 0 0 none no)"]
+    holes = [(-1, 0), (0, -1), (0, 1), (1, -1), (1, 1), (2, -1), (2, 1), (3, 0)]
+    answer = counted(none, {"dealer": "0 8 0 0"}, [(0, 0, 0), (1, 0, 1), (2, 0, 2)], holes)
+    yield "count-patch-all", patched(THREE, [(1, 0, 0), (2, 1, 0)], lines), answer
+    yield "count-patch-all-halves", patched(TWO, [(2, 2, 0), (1, 1, 0)], lines), answer
+
+
+def uncounted():
+    """A refused frame has no role lines, whatever it has counted before the refused line, if it ran."""
+    for name, lines, number, line in (
+        ("10", [DEALER, "(grow)", GROW], 10, 12),
+        ("17", PASSES * 17, 2, 26),
+        ("wild", ["(grow)", WILD_PASSES["fill-rounds"]], 3, 11),
+        ("end", ["(grow)", DEALER], 1, 12),
+        ("role", ["(grow)", "(role plant 1 8 0 0)"], 1, 11),
+        ("role-first", ["(role plant 0 0 0 0)"], 1, 10),
+        ("role-behind-as", [PLANT, "(role plant 0 0 0 0)"], 1, 11),
+    ):
+        yield f"count-refused-{name}", text(FRONT + lines), refused(number, line)
+    yield "count-refused-8", patched(ONE, [(1, 1, 0)], [DEALER, "(grow)"]), refused(8, 9)
+
+
+def counts():
+    """All of these, each with an answer by hand."""
+    for family in (no_passes(), one_role(), fill_alone(), more_roles(), shaded_counts(), patched_counts(), uncounted()):
+        yield from family
 
 
 # ---- whole frames
@@ -1024,7 +1269,11 @@ def cases():
     for family in (joined_patches(), unjoined_patches(), strange_patches(), misplaced_patches(), large_patches(), damaged(3, 150, patched=1, roled=0)):
         yield from family
     yield from roles()
+    yield from counts()
     yield from damaged(4, 150, roled=1)
+
+
+RESIDUAL = re.compile(r"(?m)^(\(local(?: \d+){5} )[0-9a-f]{8} ")
 
 
 def checked():
@@ -1035,7 +1284,7 @@ def checked():
             raise SystemExit(f"cases: two cases are named {name}")
         names.add(name)
         result = reference.result(data)
-        if answer is not None and answer != result:
+        if answer is not None and answer not in (result, RESIDUAL.sub(r"\1RESIDUAL ", result)):
             raise SystemExit(f"cases: {name}: by hand {answer!r}, reference.py says {result[:80]!r}")
         yield name, data, result
 

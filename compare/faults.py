@@ -23,7 +23,7 @@ also note each call.
 What is asked. An input that could not be read to its end is answered by nothing
 on standard output and a message on standard error: no part of a frame passes
 for a whole one. Any other is answered by its whole answer, that of reference.py
-(of 01's example, 01's own) and nothing on standard error; or, where a write
+(of 01's example, 01's own with 02's role lines) and nothing on standard error; or, where a write
 failed, by a front part of it and a message; so also where nobody reads what it
 writes, since a program of Rattle ignores SIGPIPE. Every run ends, with status 0.
 
@@ -61,6 +61,9 @@ MOST = 65537  # bytes that are read at most
 EXAMPLE = open(os.path.join(HERE, "frames", "example.frame"), "rb").read()
 EXAMPLE_ANSWER = b"""(result 1)
 (grow 1 8 0 0 no)
+(role plant 1 8 0 0)
+(role depot 0 0 0 0)
+(role dealer 0 0 0 0)
 (cell (0 0) 0)
 (cell (1 0) 1)
 (cell (2 0) 2)
@@ -72,7 +75,7 @@ EXAMPLE_ANSWER = b"""(result 1)
 (hole (2 -1))
 (hole (2 1))
 (hole (3 0))
-"""  # 01, "Frame and result"
+"""  # 01, "Frame and result", and 02, 7/14
 
 SHADED = cases.text(cases.SHADED)  # the same with shades, and with local
 PATCHED = cases.text(cases.PATCHED)  # that with the labels in two sets
@@ -145,7 +148,7 @@ ssize_t write(int fd, const void *buffer, size_t room) {
 
 
 def answer_of(data):
-    """The model's answer; of 01's example, 01's."""
+    """The model's answer; of 01's example, 01's and 02's."""
     return EXAMPLE_ANSWER if data == EXAMPLE else reference.result(data).encode()
 
 

@@ -33,7 +33,7 @@ nothing to standard error, and writes to standard output either
 
     one whole result: the heading; a line for every pass of the frame, of its
     kind, and an unmatched line behind each local where any shade stands, and
-    nowhere else; cells, holes and ambiguous cells, each strictly by i, then j, on the
+    nowhere else; the role lines, their sums being those of the pass lines; cells, holes and ambiguous cells, each strictly by i, then j, on the
     sheet; no corner twice, none that was not given, every given label where it
     was, those of the second set where the join takes them; as many cells as labels and attached corners; rounds within the limits
     of the pass; marks as many as the grow lines say, if there is one and no
@@ -363,6 +363,7 @@ UNMATCHED = re.compile(rf"\(unmatched {N}\)")
 CELL = re.compile(rf"\(cell \({W} {W}\) {N}\)")
 HOLE = re.compile(rf"\(hole \({W} {W}\)\)")
 AMBIGUOUS = re.compile(rf"\(ambiguous \({W} {W}\)\)")
+ROLE = re.compile(rf"\(role (plant|depot|dealer) {N} {N} {N} {N}\)")
 
 
 class Wrong(Exception):
@@ -410,7 +411,8 @@ def check_result(frame, text):
     attached = cleared = 0
     grows = [(0, 0)]  # the marks that each grow says: holes, ambiguous
     after, line = 1, ""
-    for kind, numbers in frame.passes:
+    sums = Counter()  # (role, which count)
+    for role, (kind, numbers) in zip(frame.roles, frame.passes):
         must(after < len(lines), "too few lines")
         line = lines[after]
         match = PASS_LINES[kind].fullmatch(line)
@@ -420,6 +422,8 @@ def check_result(frame, text):
             check_unmatched(frame, lines[after : after + 1], int(match[5]))
             after += 1
         attached += int(match[1])
+        for count in (1,) if kind == "fill" else (1, 2, 3, 4):
+            sums[role, count] += int(match[count])
         if kind == "grow":
             grows.append((int(match[2]) + int(match[4]), int(match[3])))
         if kind == "local":
@@ -428,7 +432,12 @@ def check_result(frame, text):
             must(int(match[2]) <= max(numbers[2], 1), "more rounds than asked for")
         if kind == "local":
             must(int(match[5]) <= numbers[2], "more rounds than asked for")
-    cells, at = run_of(lines, after, CELL)
+    must(after + 3 <= len(lines), "too few role lines")
+    for role, said in zip(("plant", "depot", "dealer"), lines[after : after + 3]):
+        match = ROLE.fullmatch(said)
+        must(match and match[1] == role, f"not the line of the {role}: {said}")
+        must(all(int(match[1 + count]) == sums[role, count] for count in (1, 2, 3, 4)), f"not the sums of the {role}: {said}")
+    cells, at = run_of(lines, after + 3, CELL)
     holes, at = run_of(lines, at, HOLE)
     ambiguous, at = run_of(lines, at, AMBIGUOUS)
     must(at == len(lines), f"no line of a result here: {lines[at : at + 1]}")

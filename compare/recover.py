@@ -9,8 +9,9 @@
 The expected answers are 01's table by hand where cases.py has them, and else
 those of reference.py. Each accepted generated frame with as lines (02, 6/14) is
 run again with a depot's and the plant's line in each dealer's place, and without
-as lines, and the first answer is expected again. Fails at the first frame with
-another answer, or if a run does not end in time; says how long the longest took.
+as lines, and the first answer is expected again but for its role lines (02,
+7/14). Fails at the first frame with another answer, or if a run does not end in
+time; says how long the longest took.
 """
 
 import argparse
@@ -69,7 +70,10 @@ def main():
             runs.run(name, data, result)
             if "roled" in name and not result.startswith("(refused"):
                 for other in cases.in_place_of_roles(data):
-                    again.run(f"{name}, other roles", other, result)
+                    expected = reference.result(other)
+                    if cases.without_role_lines(expected) != cases.without_role_lines(result):
+                        sys.exit(f"recover: {name}: another result of reference.py with other roles")
+                    again.run(f"{name}, other roles", other, expected)
         runs.say("generated frames")
         again.say("generated frames with other roles")
     if options.damaged:

@@ -1,6 +1,6 @@
 #!/usr/bin/env python3
-"""An executable model of the specification (01), with requests 1/14 to 3/14,
-5/14 and 6/14 of the list of requests (02), written from their text.
+"""An executable model of the specification (01), with requests 1/14 to 3/14 and
+5/14 to 7/14 of the list of requests (02), written from their text.
 
     reference.py < FRAME              01's result text, or (refused number line)
     reference.py --passes < FRAME     the sheet after every pass, as text
@@ -456,13 +456,15 @@ def supported_fit(frame, sheet, supports):
 
 
 class Answer:
-    """A pass line, the new cells in order, for grow the visited ones and, for
-    local where any shade stands, the corners passed over for their kind. A
-    library call answers the label box too, as five numbers."""
+    """A pass line, the new cells in order, what the sums of its role take of it,
+    for grow the visited cells and, for local where any shade stands, the corners
+    passed over for their kind. A library call answers the label box too, as five
+    numbers."""
 
-    def __init__(self, line, attached, visited=None, unmatched=None):
+    def __init__(self, line, attached, counts=None, visited=None, unmatched=None):
         self.line = line
         self.attached = attached
+        self.counts = counts  # attached, no candidate, ambiguous, edge
         self.visited = visited
         self.unmatched = unmatched
         self.box = None
@@ -519,7 +521,7 @@ def grow(frame, sheet, numbers, watch):
             enqueue(cell)
     rim = yes_no(sheet.rim(1))
     line = f"(grow {len(attached)} {none} {ambiguous} {edge} {rim})"
-    return Answer(line, attached, visited)
+    return Answer(line, attached, (len(attached), none, ambiguous, edge), visited)
 
 
 # ---- Fill -----------------------------------------------------------------
@@ -563,7 +565,7 @@ def fill(frame, sheet, numbers, watch):
         if len(attached) == before:
             break
     rim = yes_no(sheet.rim(1))
-    return Answer(f"(fill {len(attached)} {rounds} {rim})", attached)
+    return Answer(f"(fill {len(attached)} {rounds} {rim})", attached, (len(attached), 0, 0, 0))
 
 
 # ---- Local ----------------------------------------------------------------
@@ -643,7 +645,8 @@ def local(frame, sheet, numbers, watch):
     word = "none" if largest is None else to_hex(largest)
     rim = yes_no(sheet.rim(depth))
     line = f"(local {len(attached)} {none} {ambiguous} {edge} {rounds} {word} {rim})"
-    return Answer(line, attached, unmatched=unmatched if frame.shades else None)
+    counts = (len(attached), none, ambiguous, edge)
+    return Answer(line, attached, counts, unmatched=unmatched if frame.shades else None)
 
 
 PASSES = {"grow": grow, "fill": fill, "local": local}
@@ -1055,21 +1058,174 @@ def result(data):
     except Refused as refused:
         return f"{refused}\n"
     sheet = frame.given()
-    lines = []
-    for number in range(len(frame.passes)):
-        lines += run_pass(frame, sheet, number).lines()
-    return result_text(lines, sheet)
+    lines, ran = [], []
+    for number, role in enumerate(frame.roles):
+        answer = run_pass(frame, sheet, number)
+        lines += answer.lines()
+        ran.append((role, answer.counts))
+    return result_text(lines, role_lines(ran), sheet)
 
 
-def result_text(pass_lines, sheet):
-    """01's result: the pass lines as run, each with its unmatched line, then
-    the sheet."""
-    lines = ["(result 1)"] + pass_lines
+def result_text(pass_lines, roles, sheet):
+    """01's result: the pass lines as run, each with its unmatched line; then the
+    role lines (02, 7/14), then the sheet."""
+    lines = ["(result 1)"] + pass_lines + roles
     for (i, j), corner in sorted(sheet.corner.items()):
         lines.append(f"(cell ({i} {j}) {corner})")
     lines += [f"(hole ({i} {j}))" for i, j in sorted(sheet.holes)]
     lines += [f"(ambiguous ({i} {j}))" for i, j in sorted(sheet.ambiguous)]
     return "\n".join(lines) + "\n"
+
+
+# ---- Counts for each role (02, 7/14) --------------------------------------
+
+ROLES = ("plant", "depot", "dealer")
+
+
+def role_lines(ran):
+    """"(role name attached none ambiguous edge)" for plant, depot, dealer: of each
+    the sums over the passes run under it. `ran` are, for each pass, its role and
+    its four counts."""
+    lines = []
+    for role in ROLES:
+        sums = [0, 0, 0, 0]
+        for other, counts in ran:
+            if other == role:
+                sums = [one + more for one, more in zip(sums, counts)]
+        lines.append("(role %s %d %d %d %d)" % (role, *sums))
+    return lines
+
+
+# ---- The writers' calls ----------------------------------------------------
+#
+# The library's calls that write a result's text from words (c/projective_grid.h):
+# of each pass twelve, the last of them its role since 02, 7/14.
+
+OUTCOME_WORDS = 12
+LINE_BYTES = 128  # of a piece: room for any one line
+PLACES = 16384
+HOLE, AMBIGUOUS_MARK, CORNER_BITS = 0x4000, 0x8000, 0x3FFF
+LARGEST_COUNT = 64 * PLACES
+LARGEST_UNMATCHED = LARGEST_COUNT * 1024
+
+
+class Outcome:
+    """Twelve words of a pass, any numbers. Those that no pass has still have a
+    line, so that the text has a length: any other kind is local, any other
+    role the dealer, any other flag and rim a yes."""
+
+    def __init__(self, words):
+        self.kind, self.attached, self.none, self.ambiguous, self.edge, self.rounds = words[:6]
+        self.recorded, self.residual, self.rim, self.shaded, self.unmatched, self.role = words[6:]
+
+    def wild(self):
+        """Words that no pass has: 3."""
+        return (
+            self.kind > 2
+            or max(self.attached, self.none, self.ambiguous, self.edge) > LARGEST_COUNT
+            or self.rounds > 64
+            or self.recorded > 1
+            or (self.recorded == 1 and not isfinite(from_hex("%08x" % self.residual)))
+            or self.rim > 1
+            or self.shaded > 1
+            or (self.shaded == 1 and (self.kind != 2 or self.unmatched > LARGEST_UNMATCHED))
+            or (self.shaded == 0 and self.unmatched != 0)
+            or self.role > 2
+        )
+
+    def counts(self):
+        """02, 7/14: "fill adds to attached alone"."""
+        if self.kind == 1:
+            return self.attached, 0, 0, 0
+        return self.attached, self.none, self.ambiguous, self.edge
+
+    def lines(self):
+        rim = yes_no(self.rim)
+        if self.kind == 1:
+            return [f"(fill {self.attached} {self.rounds} {rim})"]
+        four = f"{self.attached} {self.none} {self.ambiguous} {self.edge}"
+        if self.kind == 0:
+            return [f"(grow {four} {rim})"]
+        word = "%08x" % self.residual if self.recorded else "none"
+        lines = [f"(local {four} {self.rounds} {word} {rim})"]
+        return lines + [f"(unmatched {self.unmatched})"] if self.shaded else lines
+
+    def whose(self):
+        return ROLES[min(self.role, 2)]
+
+
+def outcomes(passes, words):
+    return [Outcome(words[OUTCOME_WORDS * k : OUTCOME_WORDS * (k + 1)]) for k in range(passes)]
+
+
+def counted_lines(ran, places):
+    """The text as the piece call counts its lines: the heading, one for each
+    pass, local's two being one, the three role lines, then 16,384 each of cells,
+    holes and ambiguous cells, most of them empty."""
+    lines = ["(result 1)\n"]
+    lines += ["".join(line + "\n" for line in outcome.lines()) for outcome in ran]
+    lines += [line + "\n" for line in role_lines([(outcome.whose(), outcome.counts()) for outcome in ran])]
+    cells, holes, ambiguous = ([""] * PLACES for _ in range(3))
+    for place, word in enumerate(places[:PLACES]):
+        if word:
+            cell = f"({place // 128 + FIRST} {place % 128 + FIRST})"
+            if word & CORNER_BITS:
+                cells[place] = f"(cell {cell} {(word & CORNER_BITS) - 1})\n"
+            if word & HOLE:
+                holes[place] = f"(hole {cell})\n"
+            if word & AMBIGUOUS_MARK:
+                ambiguous[place] = f"(ambiguous {cell})\n"
+    return lines + cells + holes + ambiguous
+
+
+def lent_too_short(passes, words, places):
+    return len(words) < OUTCOME_WORDS * passes or len(places) < PLACES
+
+
+def writer_refusal(corners, ran, places, wild=False):
+    """2, 3, 5 and 6, or None."""
+    if len(ran) > 16 or corners > 1024:
+        return OVERFULL
+    if wild or any(outcome.wild() for outcome in ran):
+        return WILD
+    held = [(word & CORNER_BITS) - 1 for word in places[:PLACES] if word & CORNER_BITS]
+    if any(corner >= corners for corner in held):
+        return STRANGER
+    if len(set(held)) < len(held):
+        return DOUBLED
+    return None
+
+
+def write_result(corners, passes, words, places, room, out):
+    """The whole text, or the refusal's number. `room` and `out` are how many
+    places there are for the text and for the numbers that are answered."""
+    if lent_too_short(passes, words, places) or out < 1:
+        return SHORT
+    ran = outcomes(passes, words)
+    text = "".join(counted_lines(ran, places))
+    if room < len(text):
+        return SHORT
+    return writer_refusal(corners, ran, places) or text
+
+
+def write_piece(corners, passes, words, places, start, room, out):
+    """Whole lines from line `start` on, as long as 128 bytes are left before each,
+    and which line comes next; or the refusal's number."""
+    if lent_too_short(passes, words, places) or room < LINE_BYTES or out < 2:
+        return SHORT
+    ran = outcomes(passes, words)
+    lines = counted_lines(ran, places)
+    number = writer_refusal(corners, ran, places, start > len(lines))
+    if number is not None:
+        return number
+    text = ""
+    while start < len(lines) and room - len(text) >= LINE_BYTES:
+        text += lines[start]
+        start += 1
+    return text, start
+
+
+# ---- What the comparing programs read -------------------------------------
 
 
 def pass_text(frame, number, answer, sheet):

@@ -60,9 +60,11 @@ itself: it runs reference.py's pass from our sheet and watches for
     prediction  a prediction that is not finite
     panic       the Rust panicked
 
+The role lines (02, 7/14) of reference.py are compared with those that the Rust side
+sums up by its own reading of the as lines, where no pass of the frame is excluded.
 The text of recover is compared, byte for byte, with the one that reference.py
 gives for the frame and, where no pass of the frame is excluded, with the one
-that follows from the Rust's pass lines and its last sheet.
+that follows from the Rust's pass lines, its role lines and its last sheet.
 
 Decisions that fell on their limit, or within two units in the last place of
 it, are counted with the passes in which they fell: squared distance and
@@ -167,7 +169,7 @@ class View:
 
     def __init__(self, order, edge, beyond):
         self.name = "only rim and panic excluded" if beyond else "01's exclusions"
-        self.oracle = [ORACLE, "--order", order, "--edge", edge]
+        self.oracle = [ORACLE, "--print", "roles", "--order", order, "--edge", edge]
         self.lifted = set()
         if beyond:
             self.oracle += ["--fit", "finite-residuals"]
@@ -194,14 +196,17 @@ class Side:
         return self.ours(data) if callable(self.ours) else call(self.ours, data)
 
     def rust_text(self, view, data, ours, excluded):
-        """The Rust's text, set to our sheet after each excluded pass."""
+        """The Rust's passes, set to our sheet after each excluded one; and its role lines."""
         with open(self.sheets, "w") as file:
             for number, (lines, _) in enumerate(ours):
                 file.write(lines[0] + "\n")
                 if excluded[number]:
                     file.write("excluded\n")
                 file.write("\n".join(lines[1:]) + "\n")
-        return call(view.oracle + ["--sheets", self.sheets], data)
+        lines = call(view.oracle + ["--sheets", self.sheets], data).splitlines()
+        if len(lines) < 3 or not all(line.startswith("(role ") for line in lines[-3:]):
+            raise Failed(f"the Rust side has no role lines: {lines[-3:]}")
+        return "".join(line + "\n" for line in lines[:-3]), lines[-3:]
 
 
 def ordered(value):
@@ -245,6 +250,7 @@ class Outcome:
         self.near = []  # for each pass, its decisions near a limit
         self.model = []  # passes where --ours departs from reference.py
         self.text = ""
+        self.role_lines = []  # for each view: whether those of the passes compared are the Rust's
         self.result = None  # of recover: (as reference.py's, as the Rust's in each view)
         self.patched = False  # the frame has two sets, and reference.py joins them
         self.roled = False  # the frame has as lines, and reference.py accepts it
@@ -257,6 +263,9 @@ class Outcome:
     def differences(self):
         return [p for passes in self.views for p in passes if not p["equal"] and not p["excluded"]]
 
+    def role_lines_differ(self):
+        return "differ" in self.role_lines
+
     def result_differs(self):
         return self.result is not None and (not self.result[0] or "differ" in self.result[1])
 
@@ -266,7 +275,7 @@ class Outcome:
 
     def wrong(self):
         refusals = self.refusal is not None and len(set(self.refusal)) > 1
-        return bool(self.differences() or self.model or self.result_differs() or refusals)
+        return bool(self.differences() or self.model or self.role_lines_differ() or self.result_differs() or refusals)
 
 
 def compare(side, data, fits=None):
@@ -285,12 +294,13 @@ def compare(side, data, fits=None):
     frame.fits = fits or {}
     count = len(frame.passes)
     given = None if text is None else split_passes(text, count)
-    ours, met, pass_lines = [], [], []
+    ours, met, pass_lines, ran = [], [], [], []
     sheet = frame.given()
     for number in range(count):
         watch = Near()
         answer = ref.run_pass(frame, sheet, number, watch)
         pass_lines += answer.lines()
+        ran.append((frame.roles[number], answer.counts))
         ours += split_passes(ref.pass_text(frame, number, answer, sheet), 1)
         met.append(watch.kinds)
         outcome.near.append(watch.near)
@@ -302,15 +312,16 @@ def compare(side, data, fits=None):
     rust = []
     for view in side.views:
         excluded = [kinds - view.lifted for kinds in met]
-        text = side.rust_text(view, data, ours, excluded)
+        text, role_lines = side.rust_text(view, data, ours, excluded)
         outcome.text = outcome.text or text
-        rust.append(split_passes(text, count))
-        outcome.views.append(compare_passes(frame, ours, rust[-1], excluded))
+        rust.append((split_passes(text, count), role_lines))
+        outcome.views.append(compare_passes(frame, ours, rust[-1][0], excluded))
+        any_excluded = any(p["excluded"] for p in outcome.views[-1])
+        outcome.role_lines.append("excluded" if any_excluded else "equal" if role_lines == ref.role_lines(ran) else "differ")
     if side.recover:
         text = call(side.recover, data)
-        model = ref.result(data) if outcome.model else ref.result_text(pass_lines, sheet)
-        pairs = zip(outcome.views, rust)
-        outcome.result = (text == model, [compare_result(text, *pair) for pair in pairs])
+        model = ref.result(data) if outcome.model else ref.result_text(pass_lines, ref.role_lines(ran), sheet)
+        outcome.result = (text == model, [compare_result(text, passes, *view) for passes, view in zip(outcome.views, rust)])
     return outcome
 
 
@@ -353,15 +364,16 @@ def unmatched_of(lines):
     return int(line.strip("()").split(" ")[1]) if line.startswith("(unmatched ") else None
 
 
-def compare_result(text, passes, rust):
-    """Recover's text beside the one that follows from the Rust's passes."""
+def compare_result(text, passes, rust, role_lines):
+    """Recover's text beside the one that follows from the Rust's passes and role
+    lines."""
     if not rust:
         return "no pass"
     if any(p["excluded"] for p in passes):
         return "excluded"
     last = sheet_of(rust[-1][0])
     pass_lines = [line for lines, _ in rust for line in lines if line.startswith("(")]
-    return "equal" if text == ref.result_text(pass_lines, last) else "differ"
+    return "equal" if text == ref.result_text(pass_lines, role_lines, last) else "differ"
 
 
 def attempt(side, data):
@@ -442,6 +454,7 @@ class Tally:
         self.joined = Counter()  # frames with two sets: joined, or the number, and whether all agree
         self.roled = Counter()  # frames with as lines: accepted, or the number, and whether all agree
         self.roles = Counter()  # (view, role, kind): compared equal passes of these frames
+        self.role_lines = Counter()  # (view, several roles, equal, differ or excluded)
 
     def update(self, other):
         for name, counter in vars(self).items():
@@ -464,6 +477,8 @@ class Tally:
                 self.add_pass(view, p, {limit for limit, _ in outcome.near[p["number"]]})
                 if outcome.roled and p["equal"] and not p["excluded"]:
                     self.roles[view, p["role"], p["kind"]] += 1
+            several = len({p["role"] for p in passes}) > 1
+            self.role_lines[view, several, outcome.role_lines[view]] += 1
         if outcome.result is not None:
             self.add_result(outcome)
 
@@ -524,6 +539,9 @@ class Tally:
             rows.append([kind] + counts + [self.exclusions[view, x, kind] for x in EXCLUSIONS])
         head = ["pass", "equal all the same", "differ"] + EXCLUSIONS
         table(f"excluded ({name}; one pass may be excluded for several reasons)", head, rows)
+        words = ["equal", "differ", "excluded"]
+        rows = [[who] + [self.role_lines[view, several, word] for word in words] for who, several in (("one role or none", False), ("several roles", True))]
+        table(f"role lines of reference.py beside the Rust side's ({name})", ["frames of"] + words, rows)
         if self.roled:
             rows = [[role] + [self.roles[view, role, kind] for kind in KINDS] for role in ROLES]
             table(f"equal passes of frames with as lines ({name})", ["role"] + KINDS, rows)
@@ -640,6 +658,8 @@ class Run:
             print(f"{name}: pass {p['number'] + 1} {p['kind']} differs from the Rust")
         for number in outcome.model:
             print(f"{name}: pass {number + 1} differs from reference.py")
+        if outcome.role_lines_differ():
+            print(f"{name}: the role lines differ from the Rust side's")
         if outcome.result_differs():
             print(f"{name}: the result of recover differs")
         if outcome.refusal is not None:

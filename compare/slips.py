@@ -6,6 +6,9 @@ call's label box (02, 5/14), which the Rust does not have, is looked for in the
 cases of refusals.py: the changed model answers one of them otherwise. A slip of
 roles (02, 6/14) is looked for in those cases of cases.py that the gate replays:
 the changed model answers one of them otherwise than it is written there by hand.
+A slip of the counts for each role (02, 7/14) is looked for likewise in the cases of
+counts, which the gate replays too, and one of the writers' calls in the cases of
+writers.py.
 
     slips.py [--seed S] [--count N] [NAME ...]
 
@@ -24,8 +27,10 @@ import types
 
 import cases
 import generate
+import reference
 import refusals
 import run
+import writers
 
 HERE = os.path.dirname(os.path.abspath(__file__))
 
@@ -553,7 +558,271 @@ ROLE_SLIPS = {
     "two spaces": (WORDS, r"\(as +(dealer|depot|plant)\)"),
     "a carriage return": (WORDS, r"\(as (dealer|depot|plant)\)\r?"),
     "depot not known": (WORDS, r"\(as (dealer|plant)\)"),
-    "the role is printed": ("        lines += run_pass(", "        lines += [f\"(as {frame.roles[number]})\"] + run_pass("),
+    "the role is printed": ("        lines += answer.lines()\n", "        lines += [f\"(as {frame.roles[number]})\"] + answer.lines()\n"),
+}
+
+
+RAN = "        ran.append((role, answer.counts))\n"
+FILLED = "attached, (len(attached), 0, 0, 0))"
+GROWN = "    return Answer(line, attached, (len(attached), none, ambiguous, edge), visited)\n"
+OF_LOCAL = "    counts = (len(attached), none, ambiguous, edge)\n"
+NAMES = "ROLES = (\"plant\", \"depot\", \"dealer\")"
+ITS_OWN = "            if other == role:\n"
+ADDED = "sums = [one + more for one, more in zip(sums, counts)]"
+A_LINE = "        lines.append(\"(role %s %d %d %d %d)\" % (role, *sums))\n"
+PRINTED = "    lines = [\"(result 1)\"] + pass_lines + roles\n"
+AMBIGUOUS_LINES = "    lines += [f\"(ambiguous ({i} {j}))\" for i, j in sorted(sheet.ambiguous)]\n    return \"\\n\".join(lines)"
+HOLE_LINES = "    lines += [f\"(hole ({i} {j}))\" for i, j in sorted(sheet.holes)]\n    lines += [f\"(ambiguous ({i} {j}))\" for"
+SAID = "    return result_text(lines, role_lines(ran), sheet)\n"
+NOBODY = "    lines = []\n    for role in ROLES:\n"
+A_REFUSAL = "        return f\"{refused}\\n\"\n    sheet = frame.given()\n    lines, ran"
+
+
+def counts_as(what):
+    return RAN.replace("answer.counts", what)
+
+
+def adds(role, condition):
+    """The sums of a role have more than its own."""
+    return ITS_OWN.replace("other == role", f"other == role or role == \"{role}\" and {condition}")
+
+
+# Of the counts for each role: seen by the cases of cases.py.
+COUNT_SLIPS = {
+    "fill's rounds summed": (FILLED, FILLED.replace("0, 0, 0", "rounds, 0, 0")),
+    "fill's rounds added to attached": (FILLED, FILLED.replace("len(attached)", "len(attached) + rounds")),
+    "fill's rounds for attached": (FILLED, FILLED.replace("(len(attached),", "(rounds,")),
+    "fill adds nothing": (FILLED, FILLED.replace("(len(attached),", "(0,")),
+    "fill's cells without a candidate summed": (
+        "            if choice is None or choice is AMBIGUOUS:\n                continue",
+        "            missed = locals().get(\"missed\", 0) + (choice is None)\n"
+        "            if choice is None or choice is AMBIGUOUS:\n                continue",
+        FILLED, FILLED.replace("0, 0, 0", "locals().get(\"missed\", 0), 0, 0"),
+    ),
+    "fill's ambiguous cells summed": (
+        "            if choice is None or choice is AMBIGUOUS:\n                continue",
+        "            doubtful = locals().get(\"doubtful\", 0) + (choice is AMBIGUOUS)\n"
+        "            if choice is None or choice is AMBIGUOUS:\n                continue",
+        FILLED, FILLED.replace("0, 0, 0", "0, locals().get(\"doubtful\", 0), 0"),
+    ),
+    "grow adds to attached alone": (GROWN, GROWN.replace("(len(attached), none, ambiguous, edge)", "(len(attached), 0, 0, 0)")),
+    "grow not summed": (GROWN, GROWN.replace("(len(attached), none, ambiguous, edge)", "(0, 0, 0, 0)")),
+    "grow's edges with those without a candidate": (GROWN, GROWN.replace("none, ambiguous, edge", "none + edge, ambiguous, 0")),
+    "grow's visited cells summed": (GROWN, GROWN.replace("none, ambiguous", "len(visited), ambiguous")),
+    "grow's holes summed": (GROWN, GROWN.replace("none, ambiguous", "len(sheet.holes), ambiguous")),
+    "local adds to attached alone": (OF_LOCAL, OF_LOCAL.replace("none, ambiguous, edge", "0, 0, 0")),
+    "local not summed": (OF_LOCAL, OF_LOCAL.replace("len(attached), none, ambiguous, edge", "0, 0, 0, 0")),
+    "local's rounds summed": (OF_LOCAL, OF_LOCAL.replace("none,", "none + rounds,")),
+    "unmatched summed": (OF_LOCAL, OF_LOCAL.replace("none,", "none + unmatched,")),
+    "unmatched added to the edges": (OF_LOCAL, OF_LOCAL.replace("edge)", "edge + unmatched)")),
+    "unmatched taken from those without a candidate": (OF_LOCAL, OF_LOCAL.replace("none,", "none - unmatched,")),
+    "no candidate and ambiguous exchanged": (A_LINE, A_LINE.replace("*sums", "sums[0], sums[2], sums[1], sums[3]")),
+    "ambiguous and edge exchanged": (A_LINE, A_LINE.replace("*sums", "sums[0], sums[1], sums[3], sums[2]")),
+    "attached and no candidate exchanged": (A_LINE, A_LINE.replace("*sums", "sums[1], sums[0], sums[2], sums[3]")),
+    "local's ambiguous and edge exchanged": (OF_LOCAL, OF_LOCAL.replace("ambiguous, edge", "edge, ambiguous")),
+    "given labels counted for the plant": ("    lines, ran = [], []\n", "    lines, ran = [], [(\"plant\", (len(frame.labels), 0, 0, 0))]\n"),
+    "given labels counted for the first role": (
+        "    lines, ran = [], []\n",
+        "    lines, ran = [], [(role, (len(frame.labels), 0, 0, 0)) for role in frame.roles[:1]]\n",
+    ),
+    "all labels for attached": (RAN, counts_as("(len(sheet.corner), *answer.counts[1:])")),
+    "the second set's new labels counted": (
+        "    lines, ran = [], []\n",
+        "    lines, ran = [], [(\"plant\", (len(frame.labels) - len(frame.sets[0]), 0, 0, 0))]\n",
+    ),
+    "plant and depot exchanged": (ITS_OWN, "            if other == {\"plant\": \"depot\", \"depot\": \"plant\"}.get(role, role):\n"),
+    "plant and dealer exchanged": (ITS_OWN, "            if other == {\"plant\": \"dealer\", \"dealer\": \"plant\"}.get(role, role):\n"),
+    "depot and dealer exchanged": (ITS_OWN, "            if other == {\"depot\": \"dealer\", \"dealer\": \"depot\"}.get(role, role):\n"),
+    "the plant's for the depot's": (ITS_OWN, "            if other == {\"depot\": \"plant\"}.get(role, role):\n"),
+    "the depot's for the dealer's": (ITS_OWN, "            if other == {\"dealer\": \"depot\"}.get(role, role):\n"),
+    "the plant has all": (ITS_OWN, adds("plant", "True")),
+    "the plant has the dealer's too": (ITS_OWN, adds("plant", "other == \"dealer\"")),
+    "the depot has the dealer's too": (ITS_OWN, adds("depot", "other == \"dealer\"")),
+    "the plant's without an as line not summed": (RAN, "        if b\"(as \" in data:\n    " + RAN),
+    "all for the plant": (RAN, RAN.replace("role,", "\"plant\",")),
+    "all for the first pass's role": (RAN, RAN.replace("role,", "frame.roles[0],")),
+    "all for the last pass's role": (RAN, RAN.replace("role,", "frame.roles[-1],")),
+    "for the role of the pass before": (RAN, RAN.replace("role,", "frame.roles[max(number - 1, 0)],")),
+    "for the role of the pass behind": (RAN, RAN.replace("role,", "(frame.roles + frame.roles[-1:])[number + 1],")),
+    "the last pass not summed": (RAN, RAN + "    del ran[-1:]\n"),
+    "the first pass not summed": (RAN, RAN + "    del ran[:1]\n"),
+    "the last pass of each role alone": (ADDED, "sums = list(counts)"),
+    "the first pass of each role alone": (ADDED, "sums = sums if any(sums) else list(counts)"),
+    "the most of each role": (ADDED, "sums = [max(one, more) for one, more in zip(sums, counts)]"),
+    "a role that comes again begins anew": (
+        ITS_OWN,
+        "            if other != role:\n                sums = sums if role == \"plant\" else [0, 0, 0, 0]\n            else:\n",
+    ),
+    "the plant begins anew behind a dealer": (
+        ITS_OWN,
+        "            if other == \"dealer\" and role == \"plant\":\n                sums = [0, 0, 0, 0]\n" + ITS_OWN,
+    ),
+    "attached not summed": (ADDED, "sums = [counts[0]] + [one + more for one, more in zip(sums[1:], counts[1:])]"),
+    "eight bits": (A_LINE, A_LINE.replace("*sums", "*(one % 256 for one in sums)")),
+    "sixteen bits": (A_LINE, A_LINE.replace("*sums", "*(one % 65536 for one in sums)")),
+    "at most 65,535": (A_LINE, A_LINE.replace("*sums", "*(min(one, 65535) for one in sums)")),
+    "dealer before depot": (NAMES, NAMES.replace("\"depot\", \"dealer\"", "\"dealer\", \"depot\"")),
+    "dealer first": (NAMES, "ROLES = (\"dealer\", \"depot\", \"plant\")"),
+    "depot first": (NAMES, "ROLES = (\"depot\", \"plant\", \"dealer\")"),
+    "in the order in which they ran": (NOBODY, "    lines = []\n    for role in dict.fromkeys([other for other, _ in ran] + list(ROLES)):\n"),
+    "no line without a pass": (NOBODY, NOBODY + "        if all(other != role for other, _ in ran):\n            continue\n"),
+    "no line without a count": (A_LINE, "        if any(sums):\n    " + A_LINE),
+    "no lines without passes": (SAID, SAID.replace("role_lines(ran)", "role_lines(ran) if ran else []")),
+    "no lines without as lines": (SAID, SAID.replace("role_lines(ran)", "role_lines(ran) if b\"(as \" in data else []")),
+    "no dealer's line": (NOBODY, NOBODY.replace("ROLES", "ROLES[:2]")),
+    "no plant's line": (NOBODY, NOBODY.replace("ROLES", "ROLES[1:]")),
+    "before the pass lines": (PRINTED, PRINTED.replace("pass_lines + roles", "roles + pass_lines")),
+    "before the heading": (PRINTED, PRINTED.replace("[\"(result 1)\"] + pass_lines + roles", "roles + [\"(result 1)\"] + pass_lines")),
+    "behind the first pass line": (PRINTED, PRINTED.replace("pass_lines + roles", "pass_lines[:1] + roles + pass_lines[1:]")),
+    "before the last pass line": (PRINTED, PRINTED.replace("pass_lines + roles", "pass_lines[:-1] + roles + pass_lines[-1:]")),
+    "between local's line and the unmatched one": (
+        PRINTED,
+        PRINTED + "    if pass_lines and pass_lines[-1].startswith(\"(unmatched\"):\n"
+        "        lines = lines[:1] + pass_lines[:-1] + roles + pass_lines[-1:]\n",
+    ),
+    "behind the cells": (PRINTED, PRINTED.replace(" + roles", ""), HOLE_LINES, "    lines += roles\n" + HOLE_LINES),
+    "behind the sheet": (
+        PRINTED,
+        PRINTED.replace(" + roles", ""),
+        AMBIGUOUS_LINES,
+        AMBIGUOUS_LINES.replace("    return", "    lines += roles\n    return"),
+    ),
+    "without the role's name": (A_LINE, A_LINE.replace("%s ", "").replace("role, *sums", "*sums,")),
+    "by the role's number": (A_LINE, A_LINE.replace("%s", "%d").replace("role,", "ROLES.index(role),")),
+    "the as line's word": (A_LINE, A_LINE.replace("(role ", "(as ")),
+    "attached alone printed": (A_LINE, "        lines.append(\"(role %s %d)\" % (role, sums[0]))\n"),
+    "a sum of all behind them": (SAID, SAID.replace("role_lines(ran)", "role_lines(ran) + [\"(role all %d)\" % sum(c[0] for _, c in ran)]")),
+    "a refusal has role lines": (A_REFUSAL, A_REFUSAL.replace("{refused}\\n\"", "{refused}\\n\" + \"\\n\".join(role_lines([])) + \"\\n\"")),
+    "a role line in a frame passed over": (BEHIND, "        if line.startswith(b\"(role \"):\n            continue\n" + BEHIND),
+}
+
+
+WHOSE = "        return ROLES[min(self.role, 2)]\n"
+ROLE_WILD = "            or self.role > 2\n"
+FOUR = "        if self.kind == 1:\n            return self.attached, 0, 0, 0\n"
+ROLE_LINES = "    lines += [line + \"\\n\" for line in role_lines([(outcome.whose(), outcome.counts()) for outcome in ran])]\n"
+PIECE = "    while start < len(lines) and room - len(text) >= LINE_BYTES:\n        text += lines[start]\n"
+PIECE_WILD = "writer_refusal(corners, ran, places, start > len(lines))"
+TOO_LONG = "    if room < len(text):\n        return SHORT\n"
+ANY_WILD = "any(outcome.wild() for outcome in ran)"
+TWELVE = "OUTCOME_WORDS = 12\n"
+LAST_WORDS = "self.shaded, self.unmatched, self.role = words[6:]"
+FEW_WORDS = "    return len(words) < OUTCOME_WORDS * passes"
+WRITTEN = "    text = \"\".join(counted_lines(ran, places))\n"
+
+# Of the writers' calls: seen by the cases of writers.py.
+WRITER_SLIPS = {
+    "role 3 let through": (ROLE_WILD, ROLE_WILD.replace("> 2", "> 3")),
+    "any role let through": (ROLE_WILD, ""),
+    "role 3 alone refused": (ROLE_WILD, ROLE_WILD.replace("> 2", "== 3")),
+    "roles by their low byte": (ROLE_WILD, ROLE_WILD.replace("self.role", "self.role % 256")),
+    "roles by sixteen bits": (ROLE_WILD, ROLE_WILD.replace("self.role", "self.role % 65536")),
+    "roles as numbers with a sign": (ROLE_WILD, ROLE_WILD.replace("self.role > 2", "2 < self.role < 2**31")),
+    "role 2 refused": (ROLE_WILD, ROLE_WILD.replace("> 2", "> 1")),
+    "the first outcome's role alone refused": (ANY_WILD, "any(outcome.wild() for outcome in ran[:1])"),
+    "the last outcome's role not looked at": (ANY_WILD, "any(outcome.wild() for outcome in ran[:-1])"),
+    "a role of local alone refused": (ROLE_WILD, ROLE_WILD.replace("self.role", "self.kind == 2 and self.role")),
+    "a role above 2 is the plant's": (WHOSE, "        return ROLES[self.role if self.role < 3 else 0]\n"),
+    "a role above 2 is the depot's": (WHOSE, "        return ROLES[self.role if self.role < 3 else 1]\n"),
+    "a role above 2 is nobody's": (WHOSE, "        return ROLES[self.role] if self.role < 3 else None\n"),
+    "a wild role before the room": (TOO_LONG, "    if any(outcome.role > 2 for outcome in ran):\n        return WILD\n" + TOO_LONG),
+    "a wild role before the number of outcomes": (
+        "    if len(ran) > 16 or corners > 1024:\n",
+        "    if any(outcome.role > 2 for outcome in ran):\n        return WILD\n    if len(ran) > 16 or corners > 1024:\n",
+    ),
+    "the number of outcomes before the room": (WRITTEN, "    if len(ran) > 16:\n        return OVERFULL\n" + WRITTEN),
+    "a wild role behind 5 and 6": (
+        ROLE_WILD, "",
+        "        return DOUBLED\n    return None\n\n\ndef write_result",
+        "        return DOUBLED\n    return WILD if any(outcome.role > 2 for outcome in ran) else None\n\n\ndef write_result",
+    ),
+    "a wild role is 10": (
+        ANY_WILD,
+        "any(outcome.role < 3 and outcome.wild() for outcome in ran)",
+        "    held = [(word",
+        "    if any(outcome.role > 2 for outcome in ran):\n        return NOT_YOURS\n    held = [(word",
+    ),
+    "fill's other words summed": (FOUR, ""),
+    "fill's rounds summed by the writers": (FOUR, FOUR.replace("self.attached, 0, 0, 0", "self.attached, self.rounds, 0, 0")),
+    "grow's rounds summed by the writers": (
+        FOUR,
+        FOUR + "        if self.kind == 0:\n            return self.attached, self.none + self.rounds, self.ambiguous, self.edge\n",
+    ),
+    "the role in word 10": (LAST_WORDS, "self.shaded, self.role, self.unmatched = words[6:]"),
+    "the role in word 9": (LAST_WORDS, "self.role, self.shaded, self.unmatched = words[6:]"),
+    "eleven words": (TWELVE, "OUTCOME_WORDS = 11\n", LAST_WORDS, "self.shaded, self.unmatched, self.role = *words[6:11], 0"),
+    "eleven words asked for": (
+        FEW_WORDS,
+        FEW_WORDS.replace("OUTCOME_WORDS", "11"),
+        "self.rounds = words[:6]",
+        "self.rounds = (words + [0])[:6]",
+        LAST_WORDS,
+        "self.shaded, self.unmatched, self.role = (words + [0])[6:12]",
+    ),
+    "words counted by 64 bits": (
+        FEW_WORDS,
+        FEW_WORDS.replace("OUTCOME_WORDS * passes", "OUTCOME_WORDS * passes % 2**64"),
+        "def outcomes(passes, words):\n",
+        "def outcomes(passes, words):\n    passes = min(passes, 20)\n    words = words + [0] * 240\n",
+    ),
+    "sums by 32 bits": (A_LINE, A_LINE.replace("*sums", "*(one % 2**32 for one in sums)")),
+    "sums no higher than 2^32 - 1": (A_LINE, A_LINE.replace("*sums", "*(min(one, 2**32 - 1) for one in sums)")),
+    "sums as numbers with a sign": (A_LINE, A_LINE.replace("*sums", "*((one + 2**31) % 2**32 - 2**31 for one in sums)")),
+    "the role lines not in the length": (
+        TOO_LONG,
+        TOO_LONG.replace("len(text)", "len(text) - sum(len(line) + 1 for line in role_lines([(o.whose(), o.counts()) for o in ran]))"),
+    ),
+    "the length of role lines without counts": (
+        TOO_LONG,
+        TOO_LONG.replace("len(text)", "len(text) - sum(len(line) for line in role_lines([(o.whose(), o.counts()) for o in ran])) + 62"),
+    ),
+    "the role lines as one": (
+        ROLE_LINES,
+        ROLE_LINES.replace("lines += [line", "lines += [\"\".join(line").replace("in ran])]", "in ran]))]").replace("for line in", "for line in", 1),
+    ),
+    "the role lines with the last pass's": (
+        ROLE_LINES,
+        ROLE_LINES.replace("lines += [", "lines[-1] += \"\".join([").replace("in ran])]", "in ran])])"),
+    ),
+    "the role lines before the passes'": (ROLE_LINES, ROLE_LINES.replace("lines += ", "lines[1:1] = ")),
+    "the role lines behind the sheet's": (
+        "    return lines + cells + holes + ambiguous\n",
+        "    return lines[:-3] + cells + holes + ambiguous + lines[-3:]\n",
+    ),
+    "lines counted without the role lines": (PIECE_WILD, PIECE_WILD.replace("len(lines)", "len(lines) - 3")),
+    "one line more": (PIECE_WILD, PIECE_WILD.replace("len(lines)", "len(lines) + 1")),
+    "the end told without the role lines": (
+        "        start += 1\n    return text, start\n",
+        "        start += 1\n    return text, start - 3 * (start == len(lines))\n",
+    ),
+    "a role line lost at the border": (
+        PIECE,
+        PIECE.replace(
+            "        text",
+            "        if text and lines[start].startswith(\"(role \") and room - len(text) < LINE_BYTES + 40:\n"
+            "            start += 1\n            continue\n        text",
+        ),
+    ),
+    "a role line before which 128 places are left not written": (
+        PIECE,
+        PIECE.replace(">= LINE_BYTES", ">= LINE_BYTES + lines[start].startswith(\"(role \")"),
+    ),
+    "a role line before which 127 places are left written": (
+        PIECE,
+        PIECE.replace(">= LINE_BYTES", ">= LINE_BYTES - lines[start].startswith(\"(role \")"),
+    ),
+    "the role lines always together": (
+        PIECE,
+        PIECE.replace("LINE_BYTES:", "LINE_BYTES + lines[start].startswith(\"(role plant \") * len(\"\".join(lines[start : start + 3])):"),
+    ),
+    "a piece from a role line on has the first too": (
+        PIECE,
+        "    if start < len(lines) and lines[start].startswith(\"(role d\"):\n        start = len(ran) + 1\n" + PIECE,
+    ),
+    "role lines that say nothing passed over": (
+        PIECE,
+        PIECE.replace("text += lines[start]", "text += lines[start] if not lines[start].endswith(\" 0 0 0 0)\\n\") else \"\""),
+    ),
 }
 
 
@@ -561,7 +830,7 @@ def changed(name):
     """reference.py with the slip, as a module of its own."""
     with open(os.path.join(HERE, "reference.py")) as file:
         text = file.read()
-    slip = {**SLIPS, **BOX_SLIPS, **ROLE_SLIPS}[name]
+    slip = {**SLIPS, **BOX_SLIPS, **ROLE_SLIPS, **COUNT_SLIPS, **WRITER_SLIPS}[name]
     for old, new in zip(slip[::2], slip[1::2]):
         if text.count(old) != 1:
             sys.exit(f"{name}: stands {text.count(old)} times in reference.py: {old}")
@@ -599,19 +868,29 @@ def seen_in_boxes(module, cases):
     return None
 
 
+def seen_in_writers(module, calls):
+    """The case of writers.py that the changed model answers otherwise, or None."""
+    for name, lent, answer in calls:
+        if lent.modelled(module) != answer:
+            return f"a writers' call, {name}"
+    return None
+
+
 def main():
     parser = argparse.ArgumentParser(description=__doc__.splitlines()[0])
     parser.add_argument("names", nargs="*")
     parser.add_argument("--seed", type=int, default=1)
     parser.add_argument("--count", type=int, default=1000)
     options = parser.parse_args()
-    names = options.names or [*SLIPS, *BOX_SLIPS, *ROLE_SLIPS]
-    if not os.path.exists(run.ORACLE) and not all(name in BOX_SLIPS for name in names):
+    names = options.names or [*SLIPS, *BOX_SLIPS, *ROLE_SLIPS, *COUNT_SLIPS, *WRITER_SLIPS]
+    if not os.path.exists(run.ORACLE) and any(name in SLIPS or name in ROLE_SLIPS for name in names):
         sys.exit("slips.py: compare/rust/out/oracle is missing: compare/rust/build builds it")
     frames = list(generate.frames(options.seed, options.count, roled=0))
     roled = list(generate.frames(options.seed, options.count // 4, roled=1))
     boxes = [(name, several, refusals.lines_of(several)) for name, _, several, _ in refusals.all_boxed()]
     texts = [one for one in cases.roles() if one[0].removeprefix("as-") in cases.STORED_ROLES]
+    counts = [(name, data, reference.result(data)) for name, data, _ in cases.counts()]
+    calls = list(writers.by_hand())
     modules = {name: changed(name) for name in names}
     seen = unseen = 0
     with tempfile.TemporaryDirectory() as folder:
@@ -622,6 +901,10 @@ def main():
             elif name in ROLE_SLIPS:
                 where = seen_in_texts(module, texts)
                 besides = f"; and in {seen_in_frames(module, roled, folder) or 'no frame'}"
+            elif name in COUNT_SLIPS:
+                where = seen_in_texts(module, counts)
+            elif name in WRITER_SLIPS:
+                where = seen_in_writers(module, calls)
             else:
                 where = seen_in_frames(module, frames, folder)
             print((f"{name}: seen in {where}" if where else f"{name}: not seen") + besides, flush=True)

@@ -2,15 +2,18 @@
 """Checks of reference.py against what 01 says in so many words: its example,
 M1 to M9, and each refusal with its line; of shades against 02, 1/14, of bare
 grow against 02, 2/14, of two patches against 02, 3/14, of the label box against
-02, 5/14, and of roles against 02, 6/14. Ends with 'N passed, 0 failed'."""
+02, 5/14, of roles against 02, 6/14, and of their counts against 02, 7/14. Ends
+with 'N passed, 0 failed'."""
 
 import random
 import sys
 
 import cases
 import generate
+import permute
 import reference as ref
 import refusals as calls
+import writers
 
 EXAMPLE = b"""(frame 1)
 (cell 41200000)
@@ -25,6 +28,9 @@ EXAMPLE = b"""(frame 1)
 """
 RESULT = """(result 1)
 (grow 1 8 0 0 no)
+(role plant 1 8 0 0)
+(role depot 0 0 0 0)
+(role dealer 0 0 0 0)
 (cell (0 0) 0)
 (cell (1 0) 1)
 (cell (2 0) 2)
@@ -128,7 +134,7 @@ def unmatched():
     square (2, 0) and (2, 1) have a corner at their place and the others none.
     Where (2, 1) is attached, three of the four supports of (2, 2) are in a line:
     it has no fit. Each other cell has one, with a residual of 0."""
-    yield "no shade", local([]), ["(local 2 9 0 0 1 00000000 no)", "(cell (0 0) 0)"]
+    yield "no shade", local([]), ["(local 2 9 0 0 1 00000000 no)", "(role plant 2 9 0 0)"]
     yield "its kinds", local([(2, 0), (5, 1)]), ["(local 2 9 0 0 1 00000000 no)", "(unmatched 0)"]
     yield "the other kind", local([(2, 1), (5, 1)]), ["(local 1 10 0 0 1 00000000 no)", "(unmatched 1)"]
     yield "without a shade", local([(0, 0)]), ["(local 0 12 0 0 1 00000000 no)", "(unmatched 2)"]
@@ -172,8 +178,8 @@ def patched(first, second, rest=b"(grow)\n", corners=3):
 
 
 def said(cells):
-    """The cell lines of a result without a pass."""
-    return "(result 1)\n" + "".join(f"(cell ({i} {j}) {corner})\n" for i, j, corner in cells)
+    """The result of a frame without a pass."""
+    return f"(result 1)\n{cases.NO_COUNTS}" + "".join(f"(cell ({i} {j}) {corner})\n" for i, j, corner in cells)
 
 
 def patches():
@@ -340,7 +346,7 @@ def roles():
         yield name, frame.roles, expected
         yield f"{name}, passes", [kind for kind, _ in frame.passes], kinds
         for other in cases.in_place_of_roles(acted(*lines)):
-            yield f"{name}, result", ref.result(other), ref.result(acted(*lines))
+            yield f"{name}, result", *(cases.without_role_lines(ref.result(one)) for one in (other, acted(*lines)))
     table = [(DEALER, "yynnn"), (DEPOT, "yyyyn"), (PLANT, "yyyyy"), (b"", "yyyyy")]
     for line, may in table:
         for one, answer in zip((BARE_GROW, BARE_FILL, GROW, FILL, LOCAL), may):
@@ -410,8 +416,9 @@ def role_refusals():
 def roled():
     """Frames of generate.py with as lines, and without. An accepted one has the
     result of the frame without its as lines, and of those with a depot's or the
-    plant's line in a dealer's place. The share of frames with as lines changes no
-    other frame."""
+    plant's line in a dealer's place, but for the role lines (02, 7/14). Without as
+    lines the plant's are the sums of all. The share of frames with as lines changes
+    no other frame."""
     plain = list(generate.frames(601, 120, roled=0))
     mixed = list(generate.frames(601, 120))
     yield "none", [name for name, _ in plain if "roled" in name], []
@@ -434,9 +441,118 @@ def roled():
         result = ref.result(text)
         tried += text.count(DEALER)
         yield f"{name}, a role for each pass", len(frame.roles), len(frame.passes)
+        whole = cases.without_role_lines(result)
         for other in cases.in_place_of_roles(text):
-            yield f"{name}, in place", ref.result(other), result
+            yield f"{name}, in place", cases.without_role_lines(ref.result(other)), whole
+        together = [sum(column) for column in zip(*said_of_roles(result).values())]
+        yield f"{name}, without as lines", said_of_roles(ref.result(other)), {"plant": together, "depot": [0] * 4, "dealer": [0] * 4}
     yield "dealers' lines, refused frames", (tried > 20, 5 < refused < 40), (True, True)
+
+
+def said_of_roles(result):
+    """The four counts of each role line, in their order."""
+    said = [line.strip("()").split(" ") for line in result.splitlines() if line.startswith("(role ")]
+    return {role: [int(count) for count in counts] for _, role, *counts in said}
+
+
+def counts():
+    """02, 7/14, by hand: what is summed, and for whom."""
+    for name, ran, expected in [
+        ("none", [], [(0, 0, 0, 0)] * 3),
+        ("a dealer's", [("dealer", (1, 2, 3, 4))], [(0, 0, 0, 0), (0, 0, 0, 0), (1, 2, 3, 4)]),
+        ("two of one", [("depot", (1, 20, 0, 4)), ("depot", (5, 2, 3, 0))], [(0, 0, 0, 0), (6, 22, 3, 4), (0, 0, 0, 0)]),
+        ("apart", [("plant", (1, 1, 1, 1)), ("depot", (9, 9, 9, 9)), ("plant", (2, 3, 4, 5))], [(3, 4, 5, 6), (9, 9, 9, 9), (0, 0, 0, 0)]),
+        ("the most", [("plant", (2**20,) * 4)] * 16, [(16777216,) * 4, (0, 0, 0, 0), (0, 0, 0, 0)]),
+    ]:
+        lines = [f"(role {role} {a} {b} {c} {d})" for role, (a, b, c, d) in zip(("plant", "depot", "dealer"), expected)]
+        yield name, ref.role_lines(ran), lines
+    for line, expected in [
+        (BARE_GROW, [1, 8, 0, 0]),
+        (BARE_FILL, [1, 0, 0, 0]),
+        (b"(fill 3eb33333 3fc00000 64)\n", [1, 0, 0, 0]),
+        (LOCAL, [0, 0, 0, 0]),
+    ]:
+        result = ref.result(acted(line))
+        yield f"line {line}", said_of_roles(result), {"plant": expected, "depot": [0] * 4, "dealer": [0] * 4}
+        yield f"line {line}, where", [one[:5] for one in result.splitlines()[2:6]], ["(role"] * 3 + ["(cell"]
+    for text in (HEAD, HEAD + CORNER, acted()):
+        yield "no pass", ref.result(text).splitlines()[1:4], cases.NO_COUNTS.splitlines()
+    for text in (acted(DEALER, LOCAL), acted(GROW, b"(as plant)\n"), patched([(0, 0, 0)], [(1, 1, 0)])):
+        yield "refused", "(role" in ref.result(text), False
+
+
+# How many of a pass line's words, from the first on, the sums of its role take.
+COUNTED = {"grow": 4, "fill": 1, "local": 4}
+
+
+def sums():
+    """02, 7/14, on generated frames: the role lines stand behind the last pass line
+    and before the cells; each is the sum over the role's pass lines, and the
+    attached counts together equal the cells labelled at the end less those given,
+    with two sets those of the union."""
+    joined = refused = roles = 0
+    for seed, more in ((701, {}), (702, {"roled": 1}), (703, {"patched": 1, "roled": 0.5}), (704, {"shaded": 1, "roled": 0.5})):
+        for name, text in generate.frames(seed, 100, **more):
+            result = ref.result(text)
+            lines = result.splitlines()
+            if lines[0] != "(result 1)":
+                yield f"{name}, refused", len(lines), 1
+                refused += 1
+                continue
+            frame = ref.read(text)
+            at = 1
+            expected = {role: [0] * 4 for role in ("plant", "depot", "dealer")}
+            for role, (kind, _) in zip(frame.roles, frame.passes):
+                words = lines[at].strip("()").split(" ")[1:]
+                for k in range(COUNTED[kind]):
+                    expected[role][k] += int(words[k])
+                at += 2 if kind == "local" and frame.shades else 1
+            said = said_of_roles(result)
+            yield f"{name}, sums", said, expected
+            yield f"{name}, order", list(said), ["plant", "depot", "dealer"]
+            yield f"{name}, where", [k for k, line in enumerate(lines) if line.startswith("(role ")], [at, at + 1, at + 2]
+            given = {corner for one in frame.sets for corner, _ in one}  # a corner in both sets once
+            cells = sum(line.startswith("(cell ") for line in lines)
+            yield f"{name}, attached", sum(counts[0] for counts in said.values()) + len(given), cells
+            joined += frame.patch is not None
+            roles += len(set(frame.roles)) > 1
+    yield "joined, refused, of several roles", (joined > 80, refused > 20, roles > 50), (True, True, True)
+
+
+def reordered():
+    """Demand 3 on frames with two sets or as lines, every factor above 1: in another
+    order of the corner lines the same role lines, and all else but the numbers of
+    corners."""
+    for k in range(40):
+        rng = random.Random(f"reordered {k}")
+        family, draft = permute.a_whole_draft(rng) if k % 2 else permute.a_patched_draft(rng)
+        if draft is None:
+            continue
+        draft, family = generate.in_roles(generate.caster(f"reordered {k}", 0.7), draft, family)
+        first = ref.result(draft.text())
+        for order in permute.orders(rng, len(draft.corners), 2):
+            other = ref.result(permute.reordered(draft, order).text())
+            yield f"{k} {family}", permute.paired(other, order), first
+            yield f"{k} {family}, role lines", said_of_roles(other), said_of_roles(first)
+
+
+def written():
+    """The writers' calls: their cases by hand; and what a frame's passes say, as
+    words, is written as its result, whole and in pieces."""
+    for name, lent, expected in writers.by_hand():
+        yield name, lent.modelled(), expected
+    for name, text in generate.frames(705, 40, roled=0.5):
+        try:
+            ran, sheet, corners, result = writers.of_frame(text)
+        except ref.Refused:
+            continue
+        yield f"{name}, whole", writers.Lent(ran, sheet, len(result), corners).modelled(), result
+        rng = random.Random(f"pieces {name}")
+        pieces, start = "", 0
+        while start < len(ran) + 49156:
+            piece, start = writers.Lent(ran, sheet, rng.choice((128, 150, 300, 4096)), corners, start).modelled()
+            pieces += piece
+        yield f"{name}, pieces", pieces, result
 
 
 def boxes():
@@ -645,7 +761,9 @@ def acceptances():
 
 def main():
     passed = failed = 0
-    for checks in (worked_examples, shades, lent, bare_grow, patches, patch_refusals, joins, split, roles, role_refusals, roled, boxes, kept, library, refusals, acceptances):
+    families = [worked_examples, shades, lent, bare_grow, patches, patch_refusals, joins, split, roles, role_refusals, roled, counts, sums]
+    families += [reordered, written, boxes, kept, library, refusals, acceptances]
+    for checks in families:
         for name, got, expected in checks():
             if got == expected:
                 passed += 1

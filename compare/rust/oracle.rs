@@ -2,7 +2,7 @@
 //! its answer, its attached list in order and the whole sheet.
 //!
 //!     oracle [--sheets FILE] [--order rising|falling|mixed] [--edge at-most|below]
-//!            [--fit plain|finite-residuals] [--print passes|result] < FRAME
+//!            [--fit plain|finite-residuals] [--print passes|roles|result] < FRAME
 //!
 //! The frame is 01's text and has to be an accepted one: anything else ends
 //! the program with a message, but two sets of labels that are not joined (02,
@@ -20,7 +20,9 @@
 //!     ambiguous I J
 //!
 //! or, where the Rust panics, `panic MESSAGE` in place of all but the first.
-//! With `--print result` it prints 01's result text instead, once, at the end.
+//! With `--print roles` the three role lines (02, 7/14) stand behind the last
+//! pass; a pass in which the Rust panicked counts for none of them. With `--print
+//! result` it prints 01's result text instead, once, at the end.
 //! The source does not record the cells that grow visits, so they are not
 //! printed.
 //!
@@ -131,12 +133,40 @@ fn wanted(words: &[&str]) -> u32 {
     }
 }
 
+/// 02, 7/14: the sums of each role, by the most that it may.
+type Sums = [[usize; 4]; 3];
+
+/// "for plant, depot, dealer", behind the last pass line.
+fn role_lines(sums: &Sums) -> String {
+    let line = |name: &str, most: u32| {
+        let [attached, none, ambiguous, edge] = sums[most as usize];
+        format!("(role {name} {attached} {none} {ambiguous} {edge})\n")
+    };
+    line("plant", LOCAL) + &line("depot", FULL) + &line("dealer", BARE)
+}
+
+fn add(sums: &mut Sums, by: u32, counts: [usize; 4]) {
+    for (sum, count) in sums[by as usize].iter_mut().zip(counts) {
+        *sum += count;
+    }
+}
+
+/// A pass, and the most that who runs it may.
+struct Run {
+    pass: Pass,
+    by: u32,
+}
+
+/// What a frame is read into: its corners, the first set's sheet, the second set,
+/// the passes.
+type Frame = (Given, GrowResult, Option<Second>, Vec<Run>);
+
 /// What a refused frame is answered by: number and line.
 type Refusal = (u32, usize);
 
 /// A frame, read line by line; the brackets only part the words. The sheet is
 /// that of the first set of labels. It is refused only for its as lines.
-fn read_frame(text: &str) -> Result<(Given, GrowResult, Option<Second>, Vec<Pass>), Refusal> {
+fn read_frame(text: &str) -> Result<Frame, Refusal> {
     let mut given =
         Given { positions: vec![], pitch: vec![], shades: vec![], cell: 0.0, band: 0.0 };
     let mut sheet = GrowResult::default();
@@ -210,7 +240,7 @@ fn read_frame(text: &str) -> Result<(Given, GrowResult, Option<Second>, Vec<Pass
                 as_line = Some(k + 1);
             }
             _ => {
-                passes.push(read_pass(&words));
+                passes.push(Run { pass: read_pass(&words), by: may });
                 if wanted(&words) > may {
                     return Err((10, k + 1));
                 }
@@ -267,9 +297,16 @@ fn rim(sheet: &GrowResult, rings: i32) -> &'static str {
     }
 }
 
-/// Runs one pass; gives its line, local's with the unmatched line behind it if
-/// any shade stands, and its attached list.
-fn run(given: &Given, sheet: &mut GrowResult, pass: &Pass) -> (String, Vec<(Cell, usize)>) {
+/// What one pass says: its line, local's with the unmatched line behind it if any
+/// shade stands, its attached list, and what it adds to the sums of its role.
+struct Said {
+    line: String,
+    attached: Vec<(Cell, usize)>,
+    counts: [usize; 4],
+}
+
+/// Runs one pass.
+fn run(given: &Given, sheet: &mut GrowResult, pass: &Pass) -> Said {
     let list = |cells: Vec<Cell>, corners: Vec<usize>| {
         assert_eq!(cells.len(), corners.len());
         cells.into_iter().zip(corners).collect()
@@ -285,12 +322,13 @@ fn run(given: &Given, sheet: &mut GrowResult, pass: &Pass) -> (String, Vec<(Cell
                 s.rejected_edge,
                 rim(sheet, 1)
             );
-            (line, list(s.attached_cells, s.attached_indices))
+            let counts = [s.attached, s.rejected_no_candidate, s.rejected_ambiguous, s.rejected_edge];
+            Said { line, attached: list(s.attached_cells, s.attached_indices), counts }
         }
         Pass::Fill(params) => {
             let s = given.fill(sheet, params);
             let line = format!("(fill {} {} {})", s.added, s.iterations, rim(sheet, 1));
-            (line, list(s.attached_cells, s.attached_indices))
+            Said { line, attached: list(s.attached_cells, s.attached_indices), counts: [s.added, 0, 0, 0] }
         }
         Pass::Local(numbers) => {
             let s = given.local(sheet, numbers);
@@ -313,7 +351,8 @@ fn run(given: &Given, sheet: &mut GrowResult, pass: &Pass) -> (String, Vec<(Cell
             if given.shaded() {
                 line.push_str(&format!("\n(unmatched {})", s.rejected_label));
             }
-            (line, list(s.attached_cells, s.attached_indices))
+            let counts = [s.attached, s.rejected_no_candidate, s.rejected_ambiguous, s.rejected_edge];
+            Said { line, attached: list(s.attached_cells, s.attached_indices), counts }
         }
     }
 }
@@ -336,13 +375,14 @@ fn print_sheet(sheet: &GrowResult, out: &mut String) {
     }
 }
 
-/// 01's result text.
-fn result_text(lines: &[String], sheet: &GrowResult) -> String {
+/// 01's result text, with 02's role lines.
+fn result_text(lines: &[String], sums: &Sums, sheet: &GrowResult) -> String {
     let mut out = String::from("(result 1)\n");
     for line in lines {
         out.push_str(line);
         out.push('\n');
     }
+    out.push_str(&role_lines(sums));
     for (i, j) in sorted(sheet.labelled.keys()) {
         out.push_str(&format!("(cell ({i} {j}) {})\n", sheet.labelled[&(i, j)]));
     }
@@ -405,7 +445,7 @@ fn set_sheet(sheet: &mut GrowResult, theirs: &Theirs) {
 fn main() {
     let mut sheets = HashMap::new();
     let (mut order, mut edge) = ("rising".to_string(), "at-most".to_string());
-    let mut whole_result = false;
+    let mut print = "passes".to_string();
     let mut args = std::env::args().skip(1);
     while let Some(arg) = args.next() {
         let value = args.next().unwrap_or_else(|| fail(&format!("{arg} wants a value")));
@@ -418,11 +458,7 @@ fn main() {
                 "finite-residuals" => geometry::want_finite_residuals(true),
                 _ => fail(&format!("unknown: {value}")),
             },
-            "--print" => match value.as_str() {
-                "passes" => whole_result = false,
-                "result" => whole_result = true,
-                _ => fail(&format!("unknown: {value}")),
-            },
+            "--print" if ["passes", "roles", "result"].contains(&value.as_str()) => print = value,
             _ => fail(&format!("unknown: {arg}")),
         }
     }
@@ -447,13 +483,19 @@ fn main() {
     };
     std::panic::set_hook(Box::new(|_| {}));
 
-    if whole_result {
-        let lines: Vec<String> = passes.iter().map(|pass| run(&given, &mut sheet, pass).0).collect();
-        print!("{}", result_text(&lines, &sheet));
+    let mut sums = Sums::default();
+    if print == "result" {
+        let mut lines = Vec::new();
+        for Run { pass, by } in &passes {
+            let said = run(&given, &mut sheet, pass);
+            add(&mut sums, *by, said.counts);
+            lines.push(said.line);
+        }
+        print!("{}", result_text(&lines, &sums, &sheet));
         return;
     }
     let mut out = String::new();
-    for (k, pass) in passes.iter().enumerate() {
+    for (k, Run { pass, by }) in passes.iter().enumerate() {
         let kind = match pass {
             Pass::Grow(_) => "grow",
             Pass::Fill(_) => "fill",
@@ -462,10 +504,11 @@ fn main() {
         out.push_str(&format!("pass {} {kind}\n", k + 1));
         let theirs = sheets.get(&(k + 1));
         let panicked = match catch_unwind(AssertUnwindSafe(|| run(&given, &mut sheet, pass))) {
-            Ok((line, attached)) => {
-                out.push_str(&line);
+            Ok(said) => {
+                add(&mut sums, *by, said.counts);
+                out.push_str(&said.line);
                 out.push('\n');
-                for ((i, j), corner) in attached {
+                for ((i, j), corner) in said.attached {
                     out.push_str(&format!("attached {i} {j} {corner}\n"));
                 }
                 print_sheet(&sheet, &mut out);
@@ -484,6 +527,9 @@ fn main() {
             None if panicked => break,
             _ => {}
         }
+    }
+    if print == "roles" {
+        out.push_str(&role_lines(&sums));
     }
     print!("{out}");
 }
