@@ -7,6 +7,7 @@ use Rattle.sheet.specs.Words.{label_of, label_of_number}
 use Rattle.passes.specs.Outcome.{Outcome}
 use Rattle.passes.specs.Run.{Call, run, sheet_of as sheetAfterAll}
 use Rattle.passes.specs.declared.PassStats.{PassStats}
+use Rattle.role_counts.specs.RoleCounts.{RoledStats}
 use Rattle.invariants.specs.Calls.{Standing, CallInside}
 use Rattle.frame.specs.Frame.{Frame, parts_of, given_of, read_frame, accepted}
 use Rattle.join.specs.Rule.{Placed, All}
@@ -14,8 +15,8 @@ use Rattle.join.specs.Sheets.{labelled}
 use Rattle.frame.specs.ReadFrame.{sheet_of}
 use Rattle.frame_laws.specs.Calls.{frame_corners, calls_of}
 use Rattle.frame_laws.proofs.Runs.{accepted_runs}
-use Rattle.report_line.specs.Result.{pass_lines, heading, result_text}
-use Rattle.frame_answer.specs.Answer.{stats_of, frame_stats, frame_sheet, answer_of, answer_text}
+use Rattle.report_line.specs.Result.{pass_lines, role_lines, heading, result_text}
+use Rattle.frame_answer.specs.Answer.{outcomes_of, frame_outcomes, frame_sheet, answer_of, answer_text}
 use Rattle.written_places.specs.Written.{Written, Rise, no_more, sheet_with, attached_in}
 use Rattle.written_places.specs.Run.{Asked, runs, calls_of as callsAsked, AsAsked, ends, one_runs}
 use Rattle.written_places.specs.Text.{text_in}
@@ -58,11 +59,11 @@ calls_back (c ∷ cs) = λ t. c ∷ calls_back cs t
 
 -- ---- a result with other corner numbers
 
-renumbered_so : (to : ℕ → ℕ) (stats : List PassStats) (w : List Written) → Rise 0 w → renumbered_text to stats (sheet_with w) ≡ renumbered_in to stats w
+renumbered_so : (to : ℕ → ℕ) (outcomes : List RoledStats) (w : List Written) → Rise 0 w → renumbered_text to outcomes (sheet_with w) ≡ renumbered_in to outcomes w
 unfolding renumbered_text renumbered_in cell_line_anew numbered_anew label_of label_of_number
-renumbered_so to stats w h =
+renumbered_so to outcomes w h =
     let cells = all_told (cell_says_anew to) (λ p. refl) w h in
-    λ t. heading ++ (pass_lines stats ++ (cells t ++ (holes_so w h t ++ ambiguous_so w h t)))
+    λ t. heading ++ (pass_lines outcomes ++ (role_lines outcomes ++ (cells t ++ (holes_so w h t ++ ambiguous_so w h t))))
 
 -- ---- an accepted text
 
@@ -77,9 +78,9 @@ module _ (text : List ℕ) (f : Frame) (e : read_frame text ≡ accepted f) wher
   pub own_run : run (frame_corners f) (sheet_of f) (calls_of f) ≡ (frame_run f).outcomes
   own_run = ap₂ (λ (sheet : List ℕ) (cs : List Call). run (frame_corners f) sheet cs) (given_so f) (sym (calls_back (calls_of f))) ∙ own.run_so
 
-  own_stats : frame_stats f ≡ stats_of (frame_run f).outcomes
-  unfolding frame_stats
-  own_stats = ap stats_of own_run
+  own_outcomes : frame_outcomes f ≡ outcomes_of (parts_of f).passes (frame_run f).outcomes
+  unfolding frame_outcomes
+  own_outcomes = ap (outcomes_of (parts_of f).passes) own_run
 
   own_sheet : frame_sheet f ≡ sheet_with (frame_run f).left
   unfolding frame_sheet
@@ -88,18 +89,18 @@ module _ (text : List ℕ) (f : Frame) (e : read_frame text ≡ accepted f) wher
   own_rises : Rise 0 (frame_run f).left
   own_rises = own.left_rises
 
-  pub answer_so : answer_text text ≡ run_text (frame_run f)
+  pub answer_so : answer_text text ≡ run_text f (frame_run f)
   unfolding answer_text answer_of run_text
   answer_so =
-      ap answer_of e ∙ ap₂ result_text own_stats own_sheet ∙ text_so (frame_run f).left own_rises (stats_of (frame_run f).outcomes)
+      ap answer_of e ∙ ap₂ result_text own_outcomes own_sheet ∙ text_so (frame_run f).left own_rises (outcomes_of (parts_of f).passes (frame_run f).outcomes)
 
   -- where it is known what the run says and leaves
   module _ (os : List (Outcome PassStats)) (w : List Written) (says : (frame_run f).outcomes ≡ os) (leaves : (frame_run f).left ≡ w) where
-    pub answer_known : answer_text text ≡ text_in (stats_of os) w
+    pub answer_known : answer_text text ≡ text_in (outcomes_of (parts_of f).passes os) w
     unfolding run_text
-    answer_known = answer_so ∙ ap₂ (λ (ps : List (Outcome PassStats)) (v : List Written). text_in (stats_of ps) v) says leaves
+    answer_known = answer_so ∙ ap₂ (λ (ps : List (Outcome PassStats)) (v : List Written). text_in (outcomes_of (parts_of f).passes ps) v) says leaves
 
-    pub renumbered_known : (to : ℕ → ℕ) → renumbered_text to (frame_stats f) (frame_sheet f) ≡ renumbered_in to (stats_of os) w
+    pub renumbered_known : (to : ℕ → ℕ) → renumbered_text to (frame_outcomes f) (frame_sheet f) ≡ renumbered_in to (outcomes_of (parts_of f).passes os) w
     renumbered_known to =
-        ap₂ (renumbered_text to) (own_stats ∙ ap stats_of says) (own_sheet ∙ ap sheet_with leaves)
-        ∙ renumbered_so to (stats_of os) w (subst (Rise 0) leaves own_rises)
+        ap₂ (renumbered_text to) (own_outcomes ∙ ap (outcomes_of (parts_of f).passes) says) (own_sheet ∙ ap sheet_with leaves)
+        ∙ renumbered_so to (outcomes_of (parts_of f).passes os) w (subst (Rise 0) leaves own_rises)

@@ -25,8 +25,9 @@ use Rattle.frame_line.specs.Lines.{bits_at, whole_at, pass_line_of, line_text, f
 use Rattle.frame.specs.Frame.{opened, adding, parts_from, parts_of, accepted, read_frame, some_of, checked_line, step_line, at_end, read_lines, finish, given_of, join_of}
 use Rattle.frame.specs.ReadFrame.{xs_of, ys_of, pitches_of, shaded, shades_of, settings_of, full_of, pass_of}
 use Rattle.frame_laws.specs.Calls.{calls_of}
-use Rattle.report_line.specs.Result.{grow_line, pass_line, pass_lines}
-use Rattle.frame_answer.specs.Answer.{stats_of}
+use Rattle.report_line.specs.Result.{grow_line, pass_line, pass_lines, role_line, line_of_role, role_lines}
+use Rattle.role_counts.specs.RoleCounts.{sum_for, counts_under, counts_of}
+use Rattle.frame_answer.specs.Answer.{outcomes_of}
 use Rattle.written_places.specs.Written.{word_in, told, any_in, label_in, put_in, put}
 use Rattle.written_places.specs.Passes.{gathered_by, edges_in, result_in, try_in, enqueued_in, enqueued_at_in, seeded_from_in, grow_with_in, grow_at_in, grow_visit_in, grow_from_in, grow_run_in, grow_after_in}
 use Rattle.written_places.specs.Run.{after_pass_in, run_in}
@@ -49,12 +50,12 @@ old_read : read_frame old_text ≡ accepted old_frame
 unfolding of_bits of_int le lt eq digits digit_value read_digits ends_of outside decimal_up_to decimal integer_text digits_after read_positive read_integer unheld_whole number_text printed piece_of fit_of lines_of rows row_at kind_at form_at turn_at may_end sort_of sort_at line_text bits_at whole_at pass_line_of first_fit read_line wild_bits number_outside some_outside outside_line checks_in_order over_limit twice_of may_run forbidden opened adding parts_from parts_of some_of checked_line join_of finish step_line at_end read_lines read_frame
 old_read = refl
 
-bare_computed : run_text (frame_run bare_frame) ≡ bare_result
-unfolding of_bits of_int to_bits add sub mul div neg lt le eq digits is_finite any_below shade_of stands any_shade units_of reaches climb rooted on_sheet place_of cell_of label_of_number number_of_label bit_of label_of hole_of ambiguous_of word_of corner_of seen_through names_corner is_labelled names on_rim rim_at squared_distance insert ordered candidates_at first_two choose_unambiguous length_of mean_pitch expected_length in_band edge_ok cardinal_offsets edge_to followed_by tried verdict_of passes neighbour_offsets put_before labelled_among neighbours_of step_at step_vector weighed with_neighbour sums_from no_sums sums_of mean_of prediction_from prediction_of on_side any_on has_neighbour extrapolating choice_by member radius_of search_of decimal_up_to decimal integer_text number_text printed xs_of ys_of pitches_of shaded shades_of settings_of full_of pass_of calls_of kind_at bits_at whole_at pass_line_of opened adding parts_from parts_of grow_line pass_line pass_lines stats_of word_in told any_in label_in put_in put gathered_by edges_in result_in try_in enqueued_in enqueued_at_in seeded_from_in grow_with_in grow_at_in grow_visit_in grow_from_in grow_run_in grow_after_in after_pass_in run_in text_in labelled_in given_of join_of run_text
+bare_computed : run_text bare_frame (frame_run bare_frame) ≡ bare_result
+unfolding of_bits of_int to_bits add sub mul div neg lt le eq digits is_finite any_below shade_of stands any_shade units_of reaches climb rooted on_sheet place_of cell_of label_of_number number_of_label bit_of label_of hole_of ambiguous_of word_of corner_of seen_through names_corner is_labelled names on_rim rim_at squared_distance insert ordered candidates_at first_two choose_unambiguous length_of mean_pitch expected_length in_band edge_ok cardinal_offsets edge_to followed_by tried verdict_of passes neighbour_offsets put_before labelled_among neighbours_of step_at step_vector weighed with_neighbour sums_from no_sums sums_of mean_of prediction_from prediction_of on_side any_on has_neighbour extrapolating choice_by member radius_of search_of decimal_up_to decimal integer_text number_text printed xs_of ys_of pitches_of shaded shades_of settings_of full_of pass_of calls_of kind_at bits_at whole_at pass_line_of opened adding parts_from parts_of grow_line pass_line pass_lines outcomes_of role_line line_of_role role_lines sum_for counts_under counts_of word_in told any_in label_in put_in put gathered_by edges_in result_in try_in enqueued_in enqueued_at_in seeded_from_in grow_with_in grow_at_in grow_visit_in grow_from_in grow_run_in grow_after_in after_pass_in run_in text_in labelled_in given_of join_of run_text
 bare_computed = refl
 
-old_computed : run_text (frame_run old_frame) ≡ example_result
-unfolding of_bits of_int to_bits add sub mul div neg lt le eq digits is_finite any_below shade_of stands any_shade units_of reaches climb rooted on_sheet place_of cell_of label_of_number number_of_label bit_of label_of hole_of ambiguous_of word_of corner_of seen_through names_corner is_labelled names on_rim rim_at squared_distance insert ordered candidates_at first_two choose_unambiguous length_of mean_pitch expected_length in_band edge_ok cardinal_offsets edge_to followed_by tried verdict_of passes neighbour_offsets put_before labelled_among neighbours_of step_at step_vector weighed with_neighbour sums_from no_sums sums_of mean_of prediction_from prediction_of on_side any_on has_neighbour extrapolating choice_by member radius_of search_of decimal_up_to decimal integer_text number_text printed xs_of ys_of pitches_of shaded shades_of settings_of full_of pass_of calls_of kind_at bits_at whole_at pass_line_of opened adding parts_from parts_of grow_line pass_line pass_lines stats_of word_in told any_in label_in put_in put gathered_by edges_in result_in try_in enqueued_in enqueued_at_in seeded_from_in grow_with_in grow_at_in grow_visit_in grow_from_in grow_run_in grow_after_in after_pass_in run_in text_in labelled_in given_of join_of run_text
+old_computed : run_text old_frame (frame_run old_frame) ≡ example_result
+unfolding of_bits of_int to_bits add sub mul div neg lt le eq digits is_finite any_below shade_of stands any_shade units_of reaches climb rooted on_sheet place_of cell_of label_of_number number_of_label bit_of label_of hole_of ambiguous_of word_of corner_of seen_through names_corner is_labelled names on_rim rim_at squared_distance insert ordered candidates_at first_two choose_unambiguous length_of mean_pitch expected_length in_band edge_ok cardinal_offsets edge_to followed_by tried verdict_of passes neighbour_offsets put_before labelled_among neighbours_of step_at step_vector weighed with_neighbour sums_from no_sums sums_of mean_of prediction_from prediction_of on_side any_on has_neighbour extrapolating choice_by member radius_of search_of decimal_up_to decimal integer_text number_text printed xs_of ys_of pitches_of shaded shades_of settings_of full_of pass_of calls_of kind_at bits_at whole_at pass_line_of opened adding parts_from parts_of grow_line pass_line pass_lines outcomes_of role_line line_of_role role_lines sum_for counts_under counts_of word_in told any_in label_in put_in put gathered_by edges_in result_in try_in enqueued_in enqueued_at_in seeded_from_in grow_with_in grow_at_in grow_visit_in grow_from_in grow_run_in grow_after_in after_pass_in run_in text_in labelled_in given_of join_of run_text
 old_computed = refl
 
 pub boundary_answered : BoundaryAnswered

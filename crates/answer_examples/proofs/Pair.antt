@@ -35,7 +35,8 @@ use Rattle.frame.specs.ReadFrame.{xs_of, shaded, shades_of, sheet_of, full_of, p
 use Rattle.binary32.specs.Hex.{digits}
 use Rattle.line_form.specs.Integers.{decimal_up_to, decimal, integer_text}
 use Rattle.line_form.specs.Forms.{number_text, printed}
-use Rattle.report_line.specs.Result.{local_line as localSays, unmatched_line, local_lines, grow_line as growSays, fill_line as fillSays, pass_line, pass_lines}
+use Rattle.report_line.specs.Result.{local_line as localSays, unmatched_line, local_lines, grow_line as growSays, fill_line as fillSays, pass_line, pass_lines, role_line, line_of_role, role_lines}
+use Rattle.role_counts.specs.RoleCounts.{sum_for, counts_under, counts_of}
 use Rattle.frame_laws.specs.Calls.{frame_corners, frame_rooms, call_of, calls_of}
 use Rattle.frame_laws.proofs.Runs.{accepted_runs}
 use Rattle.frame_agreement.proofs.Reordering.{frames_run_alike}
@@ -43,7 +44,7 @@ use Rattle.written_places.specs.Written.{told}
 use Rattle.written_places.specs.Passes.{AfterIn, after_of}
 use Rattle.written_places.specs.Run.{Asked, runs, refuses, calls_of as callsAsked, AsAsked, ends, one_runs, one_refused, run_in}
 use Rattle.written_places.specs.Text.{text_in}
-use Rattle.frame_answer.specs.Answer.{stats_of, answer_text}
+use Rattle.frame_answer.specs.Answer.{outcomes_of, answer_text}
 use Rattle.result_agreement.specs.Alike.{numbered_anew, numbers, ResultsAlike}
 use Rattle.result_agreement.proofs.Alike.{frames_answer_alike}
 use Rattle.answer_examples.specs.Answer.{given_in, frame_run, renumbered_in}
@@ -208,12 +209,12 @@ met =
     }
 
 -- the answers: of the first text by its run, of the second by demand 3
-first_text_lem : text_in (stats_of outcomes) fill_left.sheet ≡ first_result
-unfolding text_in told stats_of pass_lines pass_line local_lines localSays unmatched_line growSays fillSays printed number_text integer_text decimal decimal_up_to digits to_bits of_bits cell_of label_of_number label_of hole_of ambiguous_of
+first_text_lem : text_in (outcomes_of (parts_of first_frame).passes outcomes) fill_left.sheet ≡ first_result
+unfolding text_in told outcomes_of role_line line_of_role role_lines sum_for counts_under counts_of opened adding parts_from parts_of kind_at bits_at whole_at pass_line_of pass_lines pass_line local_lines localSays unmatched_line growSays fillSays printed number_text integer_text decimal decimal_up_to digits to_bits of_bits cell_of label_of_number label_of hole_of ambiguous_of
 first_text_lem = refl
 
-second_text_lem : renumbered_in (numbers same) (stats_of outcomes) fill_left.sheet ≡ second_result
-unfolding same renumbered_in numbered_anew told stats_of pass_lines pass_line local_lines localSays unmatched_line growSays fillSays printed number_text integer_text decimal decimal_up_to digits to_bits of_bits cell_of label_of_number label_of hole_of ambiguous_of
+second_text_lem : renumbered_in (numbers same) (outcomes_of (parts_of first_frame).passes outcomes) fill_left.sheet ≡ second_result
+unfolding same renumbered_in numbered_anew told outcomes_of role_line line_of_role role_lines sum_for counts_under counts_of opened adding parts_from parts_of kind_at bits_at whole_at pass_line_of pass_lines pass_line local_lines localSays unmatched_line growSays fillSays printed number_text integer_text decimal decimal_up_to digits to_bits of_bits cell_of label_of_number label_of hole_of ambiguous_of
 second_text_lem = refl
 
 first_said : answer_text first_text ≡ first_result

@@ -42,12 +42,13 @@ use Rattle.frame.specs.ReadFrame.{xs_of, ys_of, pitches_of, shaded, shades_of, s
 use Rattle.frame_laws.specs.Calls.{frame_corners, calls_of}
 use Rattle.frame_agreement.specs.Reordering.{corner_line, corner_shade, SameShades, SameButOrder}
 use Rattle.frame_agreement.proofs.Reordering.{frames_run_alike}
-use Rattle.report_line.specs.Result.{grow_line as growSays, pass_line, pass_lines}
+use Rattle.report_line.specs.Result.{grow_line as growSays, pass_line, pass_lines, role_line, line_of_role, role_lines}
+use Rattle.role_counts.specs.RoleCounts.{sum_for, counts_under, counts_of}
 use Rattle.written_places.specs.Written.{Written, written, word_in, told, any_in, label_in, put_in, put}
 use Rattle.written_places.specs.Passes.{AfterIn, gathered_by, edges_in, result_in, try_in, enqueued_in, enqueued_at_in, seeded_from_in, grow_with_in, grow_at_in, grow_visit_in, grow_from_in, grow_run_in, grow_after_in, after_of}
 use Rattle.written_places.specs.Run.{after_pass_in, run_in}
 use Rattle.written_places.specs.Text.{text_in}
-use Rattle.frame_answer.specs.Answer.{stats_of}
+use Rattle.frame_answer.specs.Answer.{outcomes_of}
 use Rattle.result_agreement.specs.Alike.{numbered_anew, numbers}
 use Rattle.result_agreement.proofs.Alike.{frames_answer_alike}
 use Rattle.answer_examples.specs.Answer.{labelled_in, given_in, frame_run, renumbered_in}
@@ -176,12 +177,12 @@ unfolding same
 patched_met =
     record { first_read = first_read; second_read = second_read; given = given_is; same = same; pairing = λ k h. refl; factors = own_factors }
 
-first_text_lem : text_in (stats_of outcomes) grow_left.sheet ≡ patched_result
-unfolding text_in told stats_of pass_lines pass_line growSays printed number_text integer_text decimal decimal_up_to digits cell_of label_of_number label_of hole_of ambiguous_of
+first_text_lem : text_in (outcomes_of (parts_of patched_frame).passes outcomes) grow_left.sheet ≡ patched_result
+unfolding text_in told outcomes_of role_line line_of_role role_lines sum_for counts_under counts_of opened adding parts_from parts_of kind_at bits_at whole_at pass_line_of pass_lines pass_line growSays printed number_text integer_text decimal decimal_up_to digits cell_of label_of_number label_of hole_of ambiguous_of
 first_text_lem = refl
 
-second_text_lem : renumbered_in (numbers same) (stats_of outcomes) grow_left.sheet ≡ turned_result
-unfolding same renumbered_in numbered_anew told stats_of pass_lines pass_line growSays printed number_text integer_text decimal decimal_up_to digits cell_of label_of_number label_of hole_of ambiguous_of
+second_text_lem : renumbered_in (numbers same) (outcomes_of (parts_of patched_frame).passes outcomes) grow_left.sheet ≡ turned_result
+unfolding same renumbered_in numbered_anew told outcomes_of role_line line_of_role role_lines sum_for counts_under counts_of opened adding parts_from parts_of kind_at bits_at whole_at pass_line_of pass_lines pass_line growSays printed number_text integer_text decimal decimal_up_to digits cell_of label_of_number label_of hole_of ambiguous_of
 second_text_lem = refl
 
 pub patched_agreed : PatchedAgreed patched_met

@@ -42,7 +42,7 @@ old_frame = frame_off (said 7 (bits 0x3eb3_3333 ∷ bits 0x3fc0_0000 ∷ bits 0x
 -- cell (2 0) is a hole
 abbrev pub bare_result : List ℕ
 bare_result =
-    bytes "(result 1)\n(grow 0 6 0 0 no)\n(cell (0 0) 0)\n(cell (1 0) 1)\n"
+    bytes "(result 1)\n(grow 0 6 0 0 no)\n(role plant 0 6 0 0)\n(role depot 0 0 0 0)\n(role dealer 0 0 0 0)\n(cell (0 0) 0)\n(cell (1 0) 1)\n"
     ++ bytes "(hole (-1 0))\n(hole (0 -1))\n(hole (0 1))\n(hole (1 -1))\n(hole (1 1))\n(hole (2 0))\n"
 
 -- "Depots that relied on 2.0 write `(grow 3eb33333 3fc00000 40000000)`": there corner 2 is taken, and the result is that of 01's example

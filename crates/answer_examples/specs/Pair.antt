@@ -113,9 +113,10 @@ numbers_in_first = 6 ∷ 3 ∷ 9 ∷ 0 ∷ 5 ∷ 8 ∷ 7 ∷ 1 ∷ 4 ∷ 2 ∷ [
 
 -- ---- the answers: they differ in the corner numbers of their cell lines
 
--- local attaches the corner at (2 0), grow that at (0 2), and fill, which has a floor where grow has none, that at (3 0)
+-- local attaches the corner at (2 0), grow that at (0 2), and fill, which has a floor where grow has none, that at (3 0); the plant runs all three
 abbrev pub passes_said : List ℕ
-passes_said = bytes "(result 1)\n(local 1 10 1 0 1 363504f3 no)\n(grow 1 8 2 0 no)\n(fill 1 1 no)\n"
+passes_said =
+    bytes "(result 1)\n(local 1 10 1 0 1 363504f3 no)\n(grow 1 8 2 0 no)\n(fill 1 1 no)\n(role plant 3 18 3 0)\n(role depot 0 0 0 0)\n(role dealer 0 0 0 0)\n"
 
 abbrev pub marks : List ℕ
 marks =

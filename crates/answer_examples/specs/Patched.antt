@@ -67,7 +67,7 @@ united = at 0 0 ∷ at 1 1 ∷ at 2 2 ∷ []
 -- ---- the answers: they differ in the corner numbers of their cell lines
 
 abbrev pub patched_passes : List ℕ
-patched_passes = bytes "(result 1)\n(grow 1 10 0 0 no)\n"
+patched_passes = bytes "(result 1)\n(grow 1 10 0 0 no)\n(role plant 1 10 0 0)\n(role depot 0 0 0 0)\n(role dealer 0 0 0 0)\n"
 
 abbrev pub patched_marks : List ℕ
 patched_marks =

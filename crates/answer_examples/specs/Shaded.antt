@@ -90,7 +90,8 @@ numbers_in_shaded = 5 ∷ 3 ∷ 7 ∷ 0 ∷ 4 ∷ 2 ∷ 6 ∷ 1 ∷ []
 -- At cell (2 0), which takes kind 0, local passes over corner 4, which is nearer and of kind 1, and attaches corner 5, of kind 0; at cell (0 2) it passes
 -- over corner 6, which has no shade. Grow attaches corner 7, of kind 1, at cell (1 2). The given label at cell (0 0) stays, its corner of kind 1.
 abbrev pub shaded_passes : List ℕ
-shaded_passes = bytes "(result 1)\n(local 1 11 0 0 1 36800000 no)\n(unmatched 2)\n(grow 1 10 0 0 no)\n"
+shaded_passes =
+    bytes "(result 1)\n(local 1 11 0 0 1 36800000 no)\n(unmatched 2)\n(grow 1 10 0 0 no)\n(role plant 2 21 0 0)\n(role depot 0 0 0 0)\n(role dealer 0 0 0 0)\n"
 
 abbrev pub shaded_marks : List ℕ
 shaded_marks =

@@ -12,10 +12,10 @@ use Rattle.labels.proofs.Below.{any_no}
 use Rattle.line_form.specs.Written.{Wrote}
 use Rattle.report_line.specs.Result.{Piece, result_piece, line_count}
 use Rattle.report.specs.WriteResult.{text_lent, input_short, over_limit, wild, checked_piece, piece_in, PieceOut, piece_out, piece_leaves, writes_piece}
-use Rattle.report_words.specs.Outcomes.{stats_in, wild_outcome}
+use Rattle.report_words.specs.Outcomes.{outcomes_in, wild_outcome}
 use Rattle.report.specs.declared.lines.PieceEnd.{PieceEnd}
 use Rattle.report.proofs.Laws.{piece_moves}
-use Rattle.report_words.proofs.Outcomes.{stats_length}
+use Rattle.report_words.proofs.Outcomes.{outcomes_length}
 use Rattle.arguments.specs.Front.{over}
 use Rattle.report_line.specs.Refused.{refused_text}
 use Rattle.frame_answer.specs.Answer.{refused_piece, Printable, WrotePiece, Moves}
@@ -25,7 +25,7 @@ module _ (corners passes : ℕ) (words sheet : List ℕ) (p : Printable corners 
   unfolding checked_piece input_short over_limit wild
   fine =
       rw (
-        le-ltb (length words) (11 * passes) p.words_long,
+        le-ltb (length words) (12 * passes) p.words_long,
         le-ltb (length sheet) 16384 p.sheet_long,
         le-ltb (length out) 128 room,
         le-ltb 16 passes p.few_passes,
@@ -37,7 +37,7 @@ module _ (corners passes : ℕ) (words sheet : List ℕ) (p : Printable corners 
       ) refl
 
   abbrev held : Piece
-  held = result_piece (stats_in passes words) sheet from (length out)
+  held = result_piece (outcomes_in passes words) sheet from (length out)
 
   leaves : writes_piece (text_lent corners passes words sheet) from out ≡ piece_out (Ok (record { at = length held.text; next = held.next })) (over held.text out)
   unfolding writes_piece
@@ -65,12 +65,12 @@ room_for {text} {old} {new} {n} w e = omega (arith, w.count, e, ap length w.part
 
 -- a piece of a result goes on by a line at least
 pub moves_result : (passes : ℕ) (words sheet : List ℕ) {old new : List ℕ} {from : ℕ} {r : PieceEnd} → from < line_count passes → 128 ≤ length old
-    → WrotePiece (result_piece (stats_in passes words) sheet from (length old)) old new r → length new ≡ length old → Moves from (length old) r
+    → WrotePiece (result_piece (outcomes_in passes words) sheet from (length old)) old new r → length new ≡ length old → Moves from (length old) r
 moves_result passes words sheet {old} {from = from} below room w e =
     record {
       in_room = room_for w.wrote e;
       later =
-          let m = piece_moves (stats_in passes words) sheet from (length old) (rw (stats_length words 0 passes) below) room in
+          let m = piece_moves (outcomes_in passes words) sheet from (length old) (rw (outcomes_length words 0 passes) below) room in
           omega (arith, m, w.next_so);
     }
 

@@ -26,7 +26,7 @@ use Rattle.join.proofs.Sets.{labelled_length}
 use Rattle.frame_laws.proofs.Shades.{shades_long}
 use Rattle.frame_laws.proofs.Back.{frame_prints_back}
 use Rattle.arguments.specs.Front.{over}
-use Rattle.frame_passes.specs.Running.{call_at, Left, left, left_by_all, PassWords, AtFront}
+use Rattle.frame_passes.specs.Running.{role_at, call_at, Left, left, left_by_all, PassWords, AtFront}
 use Rattle.frame_answer.specs.Room.{FrameRoom, PassRoom}
 use Rattle.frame_answer.specs.Answer.{Recorded, Lent, lent_as, Recovers, recovers_not, recovers}
 use Rattle.frame_answer.proofs.Ran.{recorded}
@@ -184,12 +184,12 @@ module _ (text : List ℕ) (xs ys pitches : List Float) (shades sheet passes : L
     -- equal arguments lead to equal ends
     same : (words : List ℕ) {l l' : CornerLists} {set set' : Settings} {k k' : List ℕ} {q q' a a' : ℕ} {ps ps' : List ℕ} {m m' : ℕ} {s s' : List ℕ}
         → l ≡ l' → set ≡ set' → k ≡ k' → q ≡ q' → a ≡ a' → ps ≡ ps' → m ≡ m' → s ≡ s'
-        → left_by_all l (call_at set k q a ps) m 0 (left s words) ≡ left_by_all l' (call_at set' k' q' a' ps') m' 0 (left s' words)
-    same words l set k q a ps m s = λ t. left_by_all (l t) (call_at (set t) (k t) (q t) (a t) (ps t)) (m t) 0 (left (s t) words)
+        → left_by_all l (call_at set k q a ps) (role_at ps) m 0 (left s words) ≡ left_by_all l' (call_at set' k' q' a' ps') (role_at ps') m' 0 (left s' words)
+    same words l set k q a ps m s = λ t. left_by_all (l t) (call_at (set t) (k t) (q t) (a t) (ps t)) (role_at (ps t)) (m t) 0 (left (s t) words)
 
     -- what it leads to
     pub recovered : (head : FrameHead) → Read head → (queue places words : List ℕ) → PassRoom queue places words → (before after : Lent)
-        → left after.frame.sheet after.words ≡ left_by_all (corner_lists (take head.corners xs') (take head.corners ys') (take head.corners pitches')) (call_at head.settings (take head.corners shades') (length queue) (length places) passes') head.passes 0 (left sheet' words)
+        → left after.frame.sheet after.words ≡ left_by_all (corner_lists (take head.corners xs') (take head.corners ys') (take head.corners pitches')) (call_at head.settings (take head.corners shades') (length queue) (length places) passes') (role_at passes') head.passes 0 (left sheet' words)
         → Recovers text before after (Ok (record { corners = head.corners; passes = head.passes }))
     recovered head w queue places words r before after g =
         recovers f head.corners head.passes w.is_accepted
@@ -210,7 +210,7 @@ module _ (text : List ℕ) (xs ys pitches : List Float) (shades sheet passes : L
         settings_so : head.settings ≡ settings_of f
         settings_so = ap (λ (h : FrameHead). h.settings) w.head_so
 
-        so : left after.frame.sheet after.words ≡ left_by_all (frame_corners f) (call_at (settings_of f) (shades_of f) 4096 1024 (over (all_words (parts_of f).passes) passes)) (length (parts_of f).passes) 0 (left (sheet_of f) words)
+        so : left after.frame.sheet after.words ≡ left_by_all (frame_corners f) (call_at (settings_of f) (shades_of f) 4096 1024 (over (all_words (parts_of f).passes) passes)) (role_at (over (all_words (parts_of f).passes) passes)) (length (parts_of f).passes) 0 (left (sheet_of f) words)
         so =
             g
             ∙ same words (corners_read head w) settings_so (shades_read head w) r.queue_whole r.attached_whole w.passes_so passes_count (sheet_read head w)

@@ -4,9 +4,9 @@ use mathlib.Core.List.{List}
 use Prim.Native.Nat.{ℕ}
 use native.Mathlib.Omega.{arith}
 use lib.ListN.{length}
-use Rattle.passes.specs.declared.PassStats.{PassStats}
+use Rattle.role_counts.specs.RoleCounts.{RoledStats}
 use Rattle.report_line.specs.Result.{line_count}
-use Rattle.report_words.proofs.Outcomes.{stats_length}
+use Rattle.report_words.proofs.Outcomes.{outcomes_length}
 use Rattle.frame_answer.specs.Answer.{Lent, Recovers, recovers_not, recovers, answer_lines, answer_piece, held_lines, held_piece, CanSay, FewPasses, Says}
 use Rattle.frame.specs.declared.FrameRefusal.{FrameRefusal}
 use Rattle.frame_answer.specs.declared.Recovered.{Recovered}
@@ -24,8 +24,8 @@ says text before after _ (recovers_not r line e kept) =
 says text before after _ (recovers f corners passes e w) =
     record {
       can_say = record { few_corners = w.few_corners; few_passes = w.few_passes; words_long = w.words_long; sheet_long = w.sheet_long; tame = w.tame; known = w.known; once = w.once };
-      lines_so = rw e (ap line_count (sym (stats_length after.words 0 passes) ∙ ap (λ (s : List PassStats). length s) w.stats_so));
-      piece_so = λ k room. rw (e, w.stats_so, w.sheet_so) refl;
+      lines_so = rw e (ap line_count (sym (outcomes_length after.words 0 passes) ∙ ap (λ (s : List RoledStats). length s) w.outcomes_so));
+      piece_so = λ k room. rw (e, w.outcomes_so, w.sheet_so) refl;
     }
 
 -- so it can be said

@@ -6,14 +6,15 @@ use Rattle.arguments.specs.Arguments.{unknown_corner, doubled_corner}
 use Rattle.passes.specs.Outcome.{Outcome, refused, done}
 use Rattle.passes.specs.Run.{run, sheet_of as sheetAfterAll}
 use Rattle.passes.specs.declared.PassStats.{PassStats}
-use Rattle.frame.specs.Frame.{Frame, parts_of, FrameRead, refused_at, accepted, read_frame}
+use Rattle.role_counts.specs.RoleCounts.{RoledStats}
+use Rattle.frame.specs.Frame.{Frame, RoledPass, parts_of, FrameRead, refused_at, accepted, read_frame}
 use Rattle.frame.specs.ReadFrame.{sheet_of, Buffers}
 use Rattle.frame_laws.specs.Calls.{frame_corners, calls_of}
 use Rattle.report_line.specs.Refused.{refused_text}
 use Rattle.report_line.specs.Result.{result_text, Piece, result_piece, line_count}
 use Rattle.sizes.specs.Sizes.{place_count, corner_limit, pass_limit, outcome_size}
 use Rattle.report_line.specs.Sizes.{line_room}
-use Rattle.report_words.specs.Outcomes.{stats_in, wild_outcome}
+use Rattle.report_words.specs.Outcomes.{outcomes_in, wild_outcome}
 use Rattle.line_form.specs.Written.{Wrote}
 use Rattle.frame.specs.declared.FrameRefusal.{FrameRefusal}
 use Rattle.frame_answer.specs.declared.Recovered.{Recovered}
@@ -21,22 +22,23 @@ use Rattle.report.specs.declared.lines.PieceEnd.{PieceEnd}
 
 -- ---- the whole answer
 
--- what the passes said; no pass of an accepted frame is refused (`frame_laws`: `accepted_runs`)
-unfoldable pub stats_of : List (Outcome PassStats) → List PassStats
-stats_of [] = []
-stats_of (refused r ∷ os) = stats_of os
-stats_of (done a ∷ os) = a.answer ∷ stats_of os
+-- what each pass said, and who ran it; no pass of an accepted frame is refused (`frame_laws`: `accepted_runs`)
+unfoldable pub outcomes_of : List RoledPass → List (Outcome PassStats) → List RoledStats
+outcomes_of [] os = []
+outcomes_of (p ∷ ps) [] = []
+outcomes_of (p ∷ ps) (refused r ∷ os) = outcomes_of ps os
+outcomes_of (p ∷ ps) (done a ∷ os) = record { role = p.role; stats = a.answer } ∷ outcomes_of ps os
 
 -- the passes as run, and the sheet that they leave
-unfoldable pub frame_stats : Frame → List PassStats
-frame_stats f = stats_of (run (frame_corners f) (sheet_of f) (calls_of f))
+unfoldable pub frame_outcomes : Frame → List RoledStats
+frame_outcomes f = outcomes_of (parts_of f).passes (run (frame_corners f) (sheet_of f) (calls_of f))
 
 unfoldable pub frame_sheet : Frame → List ℕ
 frame_sheet f = sheetAfterAll (frame_corners f) (sheet_of f) (calls_of f)
 
 unfoldable pub answer_of : FrameRead → List ℕ
 answer_of (refused_at r line) = refused_text r line
-answer_of (accepted f) = result_text (frame_stats f) (frame_sheet f)
+answer_of (accepted f) = result_text (frame_outcomes f) (frame_sheet f)
 
 -- the answer to a text, any bytes at all
 unfoldable pub answer_text : List ℕ → List ℕ
@@ -52,7 +54,7 @@ pub record Recorded (f : Frame) (corners passes : ℕ) (sheet words : List ℕ) 
   pub words_long : outcome_size * passes ≤ length words
   pub sheet_long : place_count ≤ length sheet
   pub sheet_so : sheet ≡ frame_sheet f
-  pub stats_so : stats_in passes words ≡ frame_stats f
+  pub outcomes_so : outcomes_in passes words ≡ frame_outcomes f
   pub tame : (k : ℕ) → k < passes → wild_outcome words k ≡ false
   pub known : unknown_corner corners sheet ≡ false
   pub once : doubled_corner sheet ≡ false
@@ -84,7 +86,7 @@ pub data Recovers (text : List ℕ) (before after : Lent) : Result Recovered Fra
 -- how many lines there are to write, empty ones included
 unfoldable pub answer_lines : FrameRead → ℕ
 answer_lines (refused_at r line) = 1
-answer_lines (accepted f) = line_count (length (frame_stats f))
+answer_lines (accepted f) = line_count (length (frame_outcomes f))
 
 abbrev pub refused_piece : ℕ → List ℕ → Piece
 refused_piece zero text = record { text = text; next = 1 }
@@ -93,7 +95,7 @@ refused_piece (suc k) text = record { text = []; next = suc k }
 -- the piece from line k on, into so much room
 unfoldable pub answer_piece : FrameRead → ℕ → ℕ → Piece
 answer_piece (refused_at r line) k room = refused_piece k (refused_text r line)
-answer_piece (accepted f) k room = result_piece (frame_stats f) (frame_sheet f) k room
+answer_piece (accepted f) k room = result_piece (frame_outcomes f) (frame_sheet f) k room
 
 abbrev pub go_on : Bool → List ℕ → List (List ℕ) → List (List ℕ)
 go_on true text rest = text ∷ rest
@@ -124,7 +126,7 @@ held_lines (Ok r) = line_count r.passes
 
 unfoldable pub held_piece : Result Recovered FrameRefusal → List ℕ → List ℕ → ℕ → ℕ → Piece
 held_piece (Err e) words sheet k room = refused_piece k (refused_text e.refusal e.line)
-held_piece (Ok r) words sheet k room = result_piece (stats_in r.passes words) sheet k room
+held_piece (Ok r) words sheet k room = result_piece (outcomes_in r.passes words) sheet k room
 
 abbrev pub FewPasses : Result Recovered FrameRefusal → Type 0
 FewPasses (Err e) = Unit {0}

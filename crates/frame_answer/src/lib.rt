@@ -11,7 +11,7 @@ ghost use Rattle.report_line.specs.Sizes.{line_room};
 
 use frame::FrameRefusal;
 use report::PieceEnd;
-use report_line::line_sizes::SHEET_LINES;
+use report_line::line_sizes::LINES;
 
 // A frame whose passes have run: how many corners and passes it has.
 // Stays: an answer is said of these two counts alone; `FrameHead` would ask whoever says one for settings that no line of it shows (d).
@@ -64,7 +64,7 @@ pub fn answer_lines(answer: Result<Recovered, FrameRefusal>) -> usize
     ensures { result ≡ held_lines answer }
 {
     match answer {
-        Ok(recovered) => 1 + recovered.passes + SHEET_LINES,
+        Ok(recovered) => recovered.passes + LINES,
         Err(_) => 1,
     }
 }

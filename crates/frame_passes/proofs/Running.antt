@@ -19,6 +19,7 @@ use Rattle.count_bounds.specs.Bounds.{FewCounts, FewUnmatched, small_grow, small
 use Rattle.pass_call.specs.Call.{call_of, PassOut, pass_out, pass_leaves, SmallAnswer}
 use Rattle.report_words.specs.Asked.{CountsFit, UnmatchedFits, AnswerFits, with_answer}
 use Rattle.frame_passes.specs.Running.{noted, Left, left, left_by, left_by_all}
+use Rattle.roles.specs.declared.Role.{Role}
 
 -- ---- one pass
 
@@ -66,12 +67,12 @@ module _ (l : CornerLists) (set : Settings) (shades sheet queue attached sheet' 
   as_handed b = rw b refl
 
   module _ (b : around ≡ box_kept sheet) (e : pass_out r sheet' queue' attached' ≡ pass_leaves (step l sheet (call_of set shades (other around) n m pass)) sheet queue attached) where
-    pub pass_left_lem : (k : ℕ) (words words' : List ℕ) → words' ≡ with_answer words k (said_of r)
-        → left sheet' words' ≡ left_by l (call_of set shades as_left n m pass) k (left sheet words)
+    pub pass_left_lem : (k : ℕ) (role : Role) (words words' : List ℕ) → words' ≡ with_answer words k role (said_of r)
+        → left sheet' words' ≡ left_by l (call_of set shades as_left n m pass) k role (left sheet words)
     unfolding left_by
-    pass_left_lem k words words' f = rw (← as_handed b) (go (step l sheet (call_of set shades (other around) n m pass)) e)
+    pass_left_lem k role words words' f = rw (← as_handed b) (go (step l sheet (call_of set shades (other around) n m pass)) e)
       where
-        go : (o : Outcome PassStats) → pass_out r sheet' queue' attached' ≡ pass_leaves o sheet queue attached → left sheet' words' ≡ left (sheet_after sheet o) (noted words k o)
+        go : (o : Outcome PassStats) → pass_out r sheet' queue' attached' ≡ pass_leaves o sheet queue attached → left sheet' words' ≡ left (sheet_after sheet o) (noted words k role o)
         go (refused s) w = let sheets : sheet' ≡ sheet = ap (λ (o : PassOut). o.sheet) w in rw (sheets, f, ap (λ (o : PassOut). o.answer) w) refl
         go (done a) w = let sheets : sheet' ≡ a.sheet = ap (λ (o : PassOut). o.sheet) w in rw (sheets, f, ap (λ (o : PassOut). o.answer) w) refl
 
@@ -86,17 +87,17 @@ module _ (l : CornerLists) (set : Settings) (shades sheet queue attached sheet' 
 -- ---- one pass after the other
 
 -- after k of n passes: what is left to do leads to the same end, and the buffers are as long as they were
-pub record Going (l : CornerLists) (call : ℕ → Call) (n k : ℕ) (first now : Left) : Type 0 where
+pub record Going (l : CornerLists) (call : ℕ → Call) (role : ℕ → Role) (n k : ℕ) (first now : Left) : Type 0 where
   pub upto : k ≤ n
-  pub rest : left_by_all l call (n - k) k now ≡ left_by_all l call n 0 first
+  pub rest : left_by_all l call role (n - k) k now ≡ left_by_all l call role n 0 first
 
-pub none_run : (l : CornerLists) (call : ℕ → Call) (n : ℕ) (first : Left) → Going l call n 0 first first
-none_run l call n first = record { upto = omega arith; rest = rw (sub-zero n) refl }
+pub none_run : (l : CornerLists) (call : ℕ → Call) (role : ℕ → Role) (n : ℕ) (first : Left) → Going l call role n 0 first first
+none_run l call role n first = record { upto = omega arith; rest = rw (sub-zero n) refl }
 
-pub one_run : (l : CornerLists) (call : ℕ → Call) (n k : ℕ) (first now : Left) → k < n → Going l call n k first now → Going l call n (suc k) first (left_by l (call k) k now)
+pub one_run : (l : CornerLists) (call : ℕ → Call) (role : ℕ → Role) (n k : ℕ) (first now : Left) → k < n → Going l call role n k first now → Going l call role n (suc k) first (left_by l (call k) k (role k) now)
 unfolding left_by_all
-one_run l call n k first now h g = record { upto = h; rest = (let e : n - k ≡ suc (n - suc k) = omega arith in ap (λ (m : ℕ). left_by_all l call m k now) (sym e)) ∙ g.rest }
+one_run l call role n k first now h g = record { upto = h; rest = (let e : n - k ≡ suc (n - suc k) = omega arith in ap (λ (m : ℕ). left_by_all l call role m k now) (sym e)) ∙ g.rest }
 
-pub all_run : (l : CornerLists) (call : ℕ → Call) (n k : ℕ) (first now : Left) → n ≤ k → Going l call n k first now → now ≡ left_by_all l call n 0 first
+pub all_run : (l : CornerLists) (call : ℕ → Call) (role : ℕ → Role) (n k : ℕ) (first now : Left) → n ≤ k → Going l call role n k first now → now ≡ left_by_all l call role n 0 first
 unfolding left_by_all
-all_run l call n k first now h g = (let e : n - k ≡ 0 = omega arith in ap (λ (m : ℕ). left_by_all l call m k now) (sym e)) ∙ g.rest
+all_run l call role n k first now h g = (let e : n - k ≡ 0 = omega arith in ap (λ (m : ℕ). left_by_all l call role m k now) (sym e)) ∙ g.rest

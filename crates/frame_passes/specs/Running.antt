@@ -8,11 +8,13 @@ use Rattle.passes.specs.Run.{as_left, Call, step, sheet_after}
 use Rattle.passes.specs.declared.PassStats.{PassStats}
 use Rattle.pass_call.specs.Call.{call_of}
 use Rattle.frame.specs.ReadFrame.{grow_of, fill_of, local_of}
+use Rattle.roles.specs.Roles.{role_numbered}
+use Rattle.roles.specs.declared.Role.{Role}
 use Rattle.sizes.specs.Sizes.{pass_limit, pass_size, all_pass_words}
 use Rattle.report_words.specs.Asked.{with_outcome}
 
--- ---- a pass from its seven words: kind (0 grow, 1 fill, 2 local), search, factor, boundary or residual, rounds, depth; the last, its role, says
--- nothing of what it does
+-- ---- a pass from its seven words: kind (0 grow, 1 fill, 2 local), search, factor, boundary or residual, rounds, depth; the last is its role, which
+-- says nothing of what it does
 
 abbrev pub pass_word : List ℕ → ℕ → ℕ → ℕ
 pass_word words k m = get_or words (pass_size * k + m) 0
@@ -23,16 +25,19 @@ pass_at words k =
     (cond (eqb (pass_word words k 0) 1) (fill_of (pass_word words k 1) (pass_word words k 2) (pass_word words k 4))
     (local_of (pass_word words k 1) (pass_word words k 2) (pass_word words k 4) (pass_word words k 3) (pass_word words k 5)))
 
+abbrev pub role_at : List ℕ → ℕ → Role
+role_at words k = role_numbered (pass_word words k 6)
+
 -- call k of the passes that are given as words: it is handed the label box as the last one left it
 abbrev pub call_at : Settings → List ℕ → ℕ → ℕ → List ℕ → ℕ → Call
 call_at set shades queue attached passes k = call_of set shades as_left queue attached (pass_at passes k)
 
--- ---- what a call leaves: the sheet, and the words of the outcomes, eleven of each
+-- ---- what a call leaves: the sheet, and the words of the outcomes, twelve of each
 
--- the outcome of call k; a refused call has none
-abbrev pub noted : List ℕ → ℕ → Outcome PassStats → List ℕ
-noted words k (refused r) = words
-noted words k (done a) = with_outcome words k a.answer
+-- the outcome of call k, and who ran it; a refused call has none
+abbrev pub noted : List ℕ → ℕ → Role → Outcome PassStats → List ℕ
+noted words k r (refused e) = words
+noted words k r (done a) = with_outcome words k r a.answer
 
 pub record Left : Type 0 where
   pub sheet : List ℕ
@@ -41,13 +46,13 @@ pub record Left : Type 0 where
 abbrev pub left : List ℕ → List ℕ → Left
 left sheet words = record { sheet = sheet; words = words }
 
-unfoldable pub left_by : CornerLists → Call → ℕ → Left → Left
-left_by l c k s = left (sheet_after s.sheet (step l s.sheet c)) (noted s.words k (step l s.sheet c))
+unfoldable pub left_by : CornerLists → Call → ℕ → Role → Left → Left
+left_by l c k r s = left (sheet_after s.sheet (step l s.sheet c)) (noted s.words k r (step l s.sheet c))
 
 -- n passes from number k on
-unfoldable pub left_by_all : CornerLists → (ℕ → Call) → ℕ → ℕ → Left → Left
-left_by_all l call zero k s = s
-left_by_all l call (suc n) k s = left_by_all l call n (suc k) (left_by l (call k) k s)
+unfoldable pub left_by_all : CornerLists → (ℕ → Call) → (ℕ → Role) → ℕ → ℕ → Left → Left
+left_by_all l call role zero k s = s
+left_by_all l call role (suc n) k s = left_by_all l call role n (suc k) (left_by l (call k) k (role k) s)
 
 -- ---- what is asked of the buffers
 

@@ -1,4 +1,4 @@
-// The passes of a frame: read from their words, run in order on one sheet, and their outcomes noted.
+// The passes of a frame: read from their words, run in order on one sheet, and their outcomes noted, with who ran each.
 
 #![tactic(auto)]
 
@@ -6,10 +6,11 @@ ghost use Rattle.std.specs.Prelude.{◌≡◌, ◌<◌, ◌≤◌, length, take}
 ghost use Rattle.sheet.specs.Corners.{corner_lists};
 ghost use Rattle.sizes.specs.Sizes.{pass_limit, all_pass_words, all_outcome_words};
 ghost use Rattle.labels.specs.Kept.{box_kept};
-ghost use Rattle.frame_passes.specs.Running.{pass_at, call_at, left, left_by_all, PassWords, AtFront};
+ghost use Rattle.frame_passes.specs.Running.{pass_at, role_at, call_at, left, left_by_all, PassWords, AtFront};
 
 use arguments::{FillParams, GrowParams, LocalExtensionParams, Pass};
 use frame::FrameHead;
+use roles::Role;
 use sizes::PASS_WORDS;
 use std::num::f32_from_bits_with_nan;
 
@@ -46,8 +47,17 @@ fn pass_at(passes: &[u32], k: usize) -> Pass
     }
 }
 
-// Runs the passes of a frame in order on one sheet, and notes their outcomes. Its corners stand at the front of their buffers. The first pass is
-// handed the label box of the head, each later one what the one before it left.
+// Who runs a pass: the last of its seven words.
+fn role_at(passes: &[u32], k: usize) -> Role
+    requires k_lt_pass_limit { k < pass_limit }
+    requires all_pass_words_in_bounds { all_pass_words ≤ length passes.now }
+    ensures { result ≡ role_at passes.now k }
+{
+    roles::numbered(passes[PASS_WORDS * k + 6])
+}
+
+// Runs the passes of a frame in order on one sheet, and notes their outcomes, with who ran each. Its corners stand at the front of their buffers.
+// The first pass is handed the label box of the head, each later one what the one before it left.
 // Stays: the buffers are lent on to the passes, whose public calls lend each list by itself (d).
 pub fn run_frame(
     passes: &[u32],
@@ -68,7 +78,7 @@ pub fn run_frame(
     ensures { left sheet.new words.new
         ≡ left_by_all (corner_lists (take head.corners xs.now) (take head.corners ys.now)
         (take head.corners pitches.now)) (call_at head.settings (take head.corners shades.now)
-        (length queue.old) (length attached.old) passes.now) head.passes 0
+        (length queue.old) (length attached.old) passes.now) (role_at passes.now) head.passes 0
         (left sheet.old words.old) }
 {
     let corners = head.corners;
@@ -89,6 +99,11 @@ pub fn run_frame(
             pass,
         );
         around = answer.map_or(around, |(_, left)| left);
-        report_words::put::put_outcome(words, k, answer.map(|(stats, _)| stats));
+        report_words::put::put_outcome(
+            words,
+            k,
+            role_at(passes, k),
+            answer.map(|(stats, _)| stats),
+        );
     }
 }

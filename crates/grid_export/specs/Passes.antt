@@ -1,4 +1,4 @@
--- The three passes for another language: numbers and lent buffers in; out come 0 or the refusal's number, in eleven lent words what the pass
+-- The three passes for another language: numbers and lent buffers in; out come 0 or the refusal's number, in twelve lent words what the pass
 -- says, and in five lent numbers the label box. Definitions only.
 use Rattle.std.specs.Prelude.{◌≡◌, Bool, true, false, ◌||◌, List, ℕ, ℤ, ltb, length, Float}
 use Rattle.sheet.specs.Corners.{CornerLists}
@@ -12,6 +12,7 @@ use Rattle.passes.specs.Outcome.{Outcome, refused, done}
 use Rattle.passes.specs.Run.{other, step}
 use Rattle.passes.specs.Step.{box_left}
 use Rattle.passes.specs.declared.PassStats.{PassStats}
+use Rattle.roles.specs.declared.Role.{Role}
 use Rattle.pass_call.specs.Call.{call_of}
 use Rattle.sizes.specs.Sizes.{outcome_size}
 use Rattle.report_words.specs.Asked.{with_outcome}
@@ -54,14 +55,14 @@ abbrev pub pass_left : ℕ → List ℕ → List ℤ → List ℕ → List ℕ �
 pass_left answer sheet around queue attached out =
     record { answer = answer; sheet = sheet; around = around; queue = queue; attached = attached; out = out }
 
--- a refusal's number, and all as it was; or 0, what the pass leaves, the box that it leaves at the front of its places, and its eleven words at the
--- front of the last buffer
+-- a refusal's number, and all as it was; or 0, what the pass leaves, the box that it leaves at the front of its places, and its twelve words at the
+-- front of the last buffer: a call knows no role, so that the last of them is the plant's
 abbrev pub pass_told : Outcome PassStats → List ℕ → List ℤ → List ℕ → List ℕ → List ℕ → PassLeft
 pass_told (refused r) sheet around queue attached out = pass_left (number_of r) sheet around queue attached out
 pass_told (done a) sheet around queue attached out =
-    pass_left 0 a.sheet (box_entered (box_left a) around) (over a.visited queue) (over a.attached attached) (with_outcome out 0 a.answer)
+    pass_left 0 a.sheet (box_entered (box_left a) around) (over a.visited queue) (over a.attached attached) (with_outcome out 0 Role.Plant a.answer)
 
--- 7 where there are no five numbers or no room for eleven words, before anything is tried
+-- 7 where there are no five numbers or no room for twelve words, before anything is tried
 unfoldable pub lent_short : List ℤ → List ℕ → Bool
 lent_short around out = ltb (length around) box_size || ltb (length out) outcome_size
 

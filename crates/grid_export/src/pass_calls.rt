@@ -1,4 +1,4 @@
-// The passes: their numbers as settings and params, 7 where there is no room for eleven words or no label box, else the pass, its outcome as eleven
+// The passes: their numbers as settings and params, 7 where there is no room for twelve words or no label box, else the pass, its outcome as twelve
 // words and the box that it leaves.
 ghost use Rattle.std.specs.Prelude.{◌≡◌, []};
 ghost use Rattle.sheet.specs.Corners.{corner_lists};
@@ -10,6 +10,7 @@ use arguments::{FillParams, GrowParams, LocalExtensionParams, Pass, Settings};
 use grid_words::around::{BOX_PLACES, box_told, enter_box};
 use predict::{Grid, Vector};
 use refusal::Refusal;
+use roles::Role;
 use sizes::OUTCOME_WORDS;
 
 // Cell size, axes and band.
@@ -40,7 +41,7 @@ fn settings_of(
     }
 }
 
-// A pass, with the label box that five numbers stand for, and with room for eleven words: its outcome is put in these, and the box that it leaves is
+// A pass, with the label box that five numbers stand for, and with room for twelve words: its outcome is put in these, and the box that it leaves is
 // entered over the five.
 // Stays: the lists are lent on to `call_pass`, which lends each by itself (d).
 #[tactic(auto, unfolding(crate::specs::Passes::pass_exported, crate::specs::Passes::lent_short))]
@@ -68,12 +69,12 @@ fn pass_or_short(
     let (stats, left) = pass_call::call_pass(
         xs, ys, pitches, shades, sheet, handed, queue, attached, settings, pass,
     )?;
-    report_words::put::put_outcome(out, 0, Ok(stats));
+    report_words::put::put_outcome(out, 0, Role::default(), Ok(stats));
     enter_box(around, left);
     Ok(())
 }
 
-// Grow. `around` has the five numbers of the sheet's label box and takes those of the one that is left; `out` takes the eleven words of its outcome.
+// Grow. `around` has the five numbers of the sheet's label box and takes those of the one that is left; `out` takes the twelve words of its outcome.
 // Stays: the C interface passes each number and lends each buffer by itself (a).
 #[unsafe(no_mangle)]
 pub extern "C" fn projective_grid_extend_from_labelled(

@@ -11,14 +11,14 @@ use lib.Dec.{ltb}
 use lib.ListN.{length, length-append}
 use Rattle.arguments.specs.Arguments.{Checked}
 use Rattle.arguments.proofs.Chains.{or_false_both, not_refused}
-use Rattle.passes.specs.declared.PassStats.{PassStats}
+use Rattle.role_counts.specs.RoleCounts.{RoledStats}
 use Rattle.report_line.specs.Result.{lines_from, result_line, line_count, result_from}
 use Rattle.report.specs.WriteResult.{TextLent, text_of, input_short, over_limit, wild, checked_rest, checked_text, TextOut, text_out, text_leaves, writes_text, piece_in, checked_piece, PieceOut, piece_out, piece_leaves, writes_piece}
-use Rattle.report_words.specs.Outcomes.{stats_in}
+use Rattle.report_words.specs.Outcomes.{outcomes_in}
 use Rattle.report.specs.declared.lines.PieceEnd.{PieceEnd}
 use Rattle.report.proofs.Joining.{no_lines, one_line_more}
 use Rattle.report.proofs.Laws.{from_the_start, piece_joins, piece_stops, line_short}
-use Rattle.report_words.proofs.Outcomes.{stats_length}
+use Rattle.report_words.proofs.Outcomes.{outcomes_length}
 use Rattle.grid_words.specs.Frames.{Word}
 
 -- ---- lengths
@@ -41,26 +41,26 @@ unfolding over_limit
 few_passes l e = ltb-false 16 l.passes (or_false_both (ltb 16 l.passes) _ e).0
 
 module _ (l : TextLent) (few : Few l) where
-  abbrev stats : List PassStats
-  stats = stats_in l.passes l.words
+  abbrev outcomes : List RoledStats
+  outcomes = outcomes_in l.passes l.words
 
-  from_length : (k : ℕ) → length (result_from stats l.sheet k) ≤ 127 * (line_count (length stats) - k)
+  from_length : (k : ℕ) → length (result_from outcomes l.sheet k) ≤ 127 * (line_count (length outcomes) - k)
   unfolding result_from
   from_length k =
-      lines_length (result_line stats l.sheet) k (line_count (length stats) - k)
-      (λ i a b. line_short l few.tame i (omega (arith, a, b, stats_length l.words 0 l.passes)))
+      lines_length (result_line outcomes l.sheet) k (line_count (length outcomes) - k)
+      (λ i a b. line_short l few.passes few.tame i (omega (arith, a, b, outcomes_length l.words 0 l.passes)))
 
   text_few : length (text_of l) < 4294967296
   text_few =
-      omega (arith, ap length (from_the_start stats l.sheet), from_length 0, stats_length l.words 0 l.passes, few.passes)
+      omega (arith, ap length (from_the_start outcomes l.sheet), from_length 0, outcomes_length l.words 0 l.passes, few.passes)
 
   piece_few : (from room : ℕ) → from ≤ line_count l.passes → Word (length (piece_in l from room).text) × Word (piece_in l from room).next
   piece_few from room h =
       let p = piece_in l from room in
-      let many = stats_length l.words 0 l.passes in
-      let joins = ap length (piece_joins stats l.sheet from room p refl) in
-      let stops = piece_stops stats l.sheet from room (omega (arith, h, many)) in (
-        omega (arith, joins, length-append p.text (result_from stats l.sheet p.next), from_length from, many, few.passes),
+      let many = outcomes_length l.words 0 l.passes in
+      let joins = ap length (piece_joins outcomes l.sheet from room p refl) in
+      let stops = piece_stops outcomes l.sheet from room (omega (arith, h, many)) in (
+        omega (arith, joins, length-append p.text (result_from outcomes l.sheet p.next), from_length from, many, few.passes),
         omega (arith, stops, many, few.passes),
       )
 

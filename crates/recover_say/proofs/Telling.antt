@@ -29,7 +29,7 @@ few_said (Err e) words sheet h = tt
 few_said (Ok r) words sheet h = h.few_passes
 
 -- so it has few lines, empty ones included
-pub few_lines : (answer : Result Recovered FrameRefusal) → FewPasses answer → held_lines answer ≤ 49169
+pub few_lines : (answer : Result Recovered FrameRefusal) → FewPasses answer → held_lines answer ≤ 49172
 unfolding held_lines
 few_lines (Err e) h = omega arith
 few_lines (Ok r) h = omega (arith, h)

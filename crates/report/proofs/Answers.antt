@@ -13,7 +13,7 @@ use Rattle.line_form.specs.Written.{Wrote}
 use Rattle.report_line.specs.Result.{line_count, Piece}
 use Rattle.arguments.specs.Front.{over}
 use Rattle.report.specs.WriteResult.{TextLent, text_of, input_short, over_limit, wild, checked_rest, checked_text, TextOut, text_out, text_leaves, writes_text, piece_in, checked_piece, PieceOut, piece_out, piece_leaves, writes_piece}
-use Rattle.report_words.specs.Outcomes.{stats_in}
+use Rattle.report_words.specs.Outcomes.{outcomes_in}
 use Rattle.report.specs.Said.{text_said, text_due, piece_said, piece_due}
 use Rattle.report.specs.Asked.{Sound, text_from, piece_from, AllAsked, SomeAsked, WrotePiece}
 use Rattle.report.specs.declared.lines.PieceEnd.{PieceEnd}
@@ -24,12 +24,13 @@ use Rattle.report.proofs.Said.{text_promised, piece_promised}
 use Rattle.arguments.specs.Arguments.{Checked}
 
 module _ (l : TextLent) where
-  sound : input_short l ≡ false → wild l ≡ false → Sound l.passes l.words l.sheet
-  sound a b = record { all = all_lent l a; tame = all_tame l b }
+  sound : input_short l ≡ false → over_limit l ≡ false → wild l ≡ false → Sound l.passes l.words l.sheet
+  unfolding over_limit
+  sound a c b = record { all = all_lent l a; few = ltb-false 16 l.passes (or_false_both (ltb 16 l.passes) _ c).0; tame = all_tame l b }
 
   same_text : text_from l.passes l.words l.sheet 0 ≡ text_of l
   unfolding text_from
-  same_text = from_the_start (stats_in l.passes l.words) l.sheet
+  same_text = from_the_start (outcomes_in l.passes l.words) l.sheet
 
   -- ---- the whole text
 
@@ -41,7 +42,7 @@ module _ (l : TextLent) where
         let short = or_false_both (input_short l) _ seven.0 in
         let two = not_refused (over_limit l) _ _ seven.1 in
         let three = not_refused (wild l) _ _ two.1 in
-        record { sound = sound short.0 three.0; room = rw same_text (ltb-false (length out) (length (text_of l)) short.1) }
+        record { sound = sound short.0 two.0 three.0; room = rw same_text (ltb-false (length out) (length (text_of l)) short.1) }
 
     -- what the call promises
     abbrev TextPromised : TextOut → Type 0
@@ -70,7 +71,7 @@ module _ (l : TextLent) where
         let two = not_refused (over_limit l) _ _ seven.1 in
         let three = not_refused (wild l || ltb (line_count l.passes) from) _ _ two.1 in
         let range = or_false_both (wild l) _ three.0 in
-        record { sound = sound short.0 range.0; upto = ltb-false (line_count l.passes) from range.1 }
+        record { sound = sound short.0 two.0 range.0; upto = ltb-false (line_count l.passes) from range.1 }
 
     -- what the call promises
     abbrev PiecePromised : PieceOut → Type 0

@@ -48,32 +48,32 @@ blank_sheet sheet n h e = go (ltb n 16384) (ltb n 32768) refl refl
 
 pub blank_line : (passes : ℕ) (words sheet : List ℕ) (k : ℕ) → k < line_count passes → blank_at passes sheet k ≡ true → line_at passes words sheet k ≡ []
 unfolding blank_at
-blank_line passes words sheet k h e = go (leb k passes) refl e
+blank_line passes words sheet k h e = go (leb k (passes + 3)) refl e
   where
-    go : (t : Bool) → leb k passes ≡ t → cond t false (eqb (get_or sheet ((k - 1 - passes) % 16384) 0) 0) ≡ true → line_at passes words sheet k ≡ []
+    go : (t : Bool) → leb k (passes + 3) ≡ t → cond t false (eqb (get_or sheet ((k - 1 - passes - 3) % 16384) 0) 0) ≡ true → line_at passes words sheet k ≡ []
     go true a b = absurd (let z : ◌≡◌ {A = ℕ} 0 1 = cc in omega arith)
     go false a b =
-        let l = leb-false k passes a in
-        sym (sheet_line_lem passes words sheet k (k - 1 - passes) (omega arith))
-        ∙ blank_sheet sheet (k - 1 - passes) (omega arith) (eqb-true _ 0 b)
+        let l = leb-false k (passes + 3) a in
+        sym (sheet_line_lem passes words sheet k (k - 1 - passes - 3) (omega arith))
+        ∙ blank_sheet sheet (k - 1 - passes - 3) (omega arith) (eqb-true _ 0 b)
 
 -- a line of a place, by what the place holds
-blank_late : (passes : ℕ) (sheet : List ℕ) (k : ℕ) → passes < k → eqb (get_or sheet ((k - 1 - passes) % 16384) 0) 0 ≡ blank_at passes sheet k
+blank_late : (passes : ℕ) (sheet : List ℕ) (k : ℕ) → passes + 3 < k → eqb (get_or sheet ((k - 1 - passes - 3) % 16384) 0) 0 ≡ blank_at passes sheet k
 unfolding blank_at
-blank_late passes sheet k h = rw (lt-leb k passes h)
+blank_late passes sheet k h = rw (lt-leb k (passes + 3) h)
 
 -- ---- the lines of a row
 
 -- the places from that of line k on, which is line m of the sheet, up to the end of its row
-pub lines_of : (passes : ℕ) (sheet : List ℕ) (k m n : ℕ) → k ≡ suc (passes + m)
+pub lines_of : (passes : ℕ) (sheet : List ℕ) (k m n : ℕ) → k ≡ suc (passes + (3 + m))
     → BlankPlaces sheet (m % 16384) n → BlankLines passes sheet k n
 lines_of passes sheet k m n h s = record { blank = one }
   where
     one : (a : ℕ) → k ≤ a → a < k + n → blank_at passes sheet a ≡ true
     one a p q =
         let u = s.upto in
-        let d : (a - 1 - passes) % 16384 ≡ m % 16384 + (a - k) = omega arith in
-        sym (blank_late passes sheet a (omega arith)) ∙ eq-eqb (get_or sheet ((a - 1 - passes) % 16384) 0) 0 (rw d (blank_place sheet (m % 16384) n s.blank (a - k) (omega arith)))
+        let d : (a - 1 - passes - 3) % 16384 ≡ m % 16384 + (a - k) = omega arith in
+        sym (blank_late passes sheet a (omega arith)) ∙ eq-eqb (get_or sheet ((a - 1 - passes - 3) % 16384) 0) 0 (rw d (blank_place sheet (m % 16384) n s.blank (a - k) (omega arith)))
 
 -- ---- a piece without them
 

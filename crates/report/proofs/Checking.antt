@@ -14,7 +14,7 @@ use Rattle.arguments.proofs.Tests.{holds, fails}
 use Rattle.arguments.proofs.Chains.{or_false, or_false_both, refused, passed}
 use Rattle.report_line.specs.Result.{line_count}
 use Rattle.report.specs.WriteResult.{TextLent, text_of, input_short, over_limit, wild, checked_rest, checked_text, checked_piece}
-use Rattle.report_words.specs.Outcomes.{stats_in}
+use Rattle.report_words.specs.Outcomes.{outcomes_in}
 use Rattle.sizes.specs.Sizes.{outcome_size}
 use Rattle.report.specs.Asked.{AllLent, text_from, CornersAsked, rest_checked}
 use Rattle.report.proofs.Laws.{from_the_start}
@@ -36,7 +36,7 @@ module _ (l : TextLent) where
   module _ (room : ℕ) where
     same_text : ltb room (length (text_from l.passes l.words l.sheet 0)) ≡ ltb room (length (text_of l))
     unfolding text_from
-    same_text = ap (λ (t : List ℕ). ltb room (length t)) (from_the_start (stats_in l.passes l.words) l.sheet)
+    same_text = ap (λ (t : List ℕ). ltb room (length t)) (from_the_start (outcomes_in l.passes l.words) l.sheet)
 
     pub text_7 : input_short l ≡ true → Err Refusal.BufferTooShort ≡ checked_text l room
     unfolding checked_text
@@ -62,9 +62,9 @@ module _ (l : TextLent) where
       unfolding checked_piece
       piece_7_too h = refused _ _ _ (sym (fails _ _ _ a (sym (lt-ltb _ _ h))))
 
-      pub piece_rest : 128 ≤ room → rest_checked l (ltb (l.passes + 49153) from) ≡ checked_piece l from room
+      pub piece_rest : 128 ≤ room → rest_checked l (ltb (l.passes + 49156) from) ≡ checked_piece l from room
       unfolding checked_piece
       piece_rest b = passed _ _ _ _ (or_false _ _ a (le-ltb _ _ b)) (ap (λ (n : ℕ). rest_checked l (ltb n from)) lines)
         where
-          lines : l.passes + 49153 ≡ line_count l.passes
+          lines : l.passes + 49156 ≡ line_count l.passes
           lines = omega arith

@@ -1,24 +1,27 @@
 -- Laws of a result's text: from line 0 on it is the whole text, its pieces join to it, and no line is longer than 127 bytes. Assumes nothing.
-use mathlib.Core.Path.{◌≡◌, refl, ap, ap₂, ◌∙◌}
+use mathlib.Core.Path.{◌≡◌, refl, sym, ap, ap₂, ◌∙◌}
 use mathlib.Core.Bool.{Bool, false, cond}
-use mathlib.Core.List.{List, [], ◌∷◌, ◌++◌}
+use mathlib.Core.List.{List, [], ◌∷◌, ◌++◌, append-nil}
 use Prim.Native.Nat.{ℕ, suc, ◌+◌, ◌-◌, ◌≤◌, ◌<◌}
 use native.Mathlib.Omega.{arith}
 use borrow.Author.Tests.{lt-ltb, le-ltb}
 use lib.ListN.{length}
-use Rattle.passes.specs.declared.PassStats.{PassStats}
-use Rattle.report_line.specs.Result.{pass_line, pass_lines, cell_line, hole_line, ambiguous_line, lines_from, all_places, heading, result_text, pass_line_at, sheet_line, after_heading, result_line, line_count, result_from, Piece, result_piece}
+use Rattle.role_counts.specs.RoleCounts.{RoledStats}
+use Rattle.roles.specs.Roles.{role_numbered}
+use Rattle.roles.specs.declared.Role.{Role}
+use Rattle.report_line.specs.Result.{pass_line, pass_lines, line_of_role, role_lines, cell_line, hole_line, ambiguous_line, lines_from, all_places, heading, sheet_text, result_text, pass_line_at, sheet_line, after_passes, after_heading, result_line, line_count, result_from, Piece, result_piece}
 use Rattle.report.specs.WriteResult.{TextLent, wild}
-use Rattle.report_words.specs.Outcomes.{stats_in}
+use Rattle.report_words.specs.Outcomes.{outcomes_in}
+use Rattle.report.proofs.Numbered.{behind_roles}
 use Rattle.report.proofs.Short as short
 use Rattle.report.proofs.Joining.{one_line_more, lines_split, lines_same, Cut, cut, moves, fits}
 
 -- ---- from line 0 on it is the whole text
 
-pass_lines_lem : (stats : List PassStats) → lines_from (pass_line_at stats) 0 (length stats) ≡ pass_lines stats
+pass_lines_lem : (outcomes : List RoledStats) → lines_from (pass_line_at outcomes) 0 (length outcomes) ≡ pass_lines outcomes
 unfolding pass_lines lines_from
 pass_lines_lem [] = refl
-pass_lines_lem (s ∷ ss) = ap (λ (l : List ℕ). pass_line s ++ l) (lines_same (pass_line_at (s ∷ ss)) (pass_line_at ss) 1 0 (length ss) (λ a b l m e. let d : a ≡ suc b = omega arith in rw d) ∙ pass_lines_lem ss)
+pass_lines_lem (s ∷ ss) = ap (λ (l : List ℕ). pass_line s.stats ++ l) (lines_same (pass_line_at (s ∷ ss)) (pass_line_at ss) 1 0 (length ss) (λ a b l m e. let d : a ≡ suc b = omega arith in rw d) ∙ pass_lines_lem ss)
 
 -- three walks over n places are one walk over three times as many lines
 three_walks : (all f g h : ℕ → List ℕ) (n : ℕ) → ((i : ℕ) → i < n → all i ≡ f i) → ((i : ℕ) → n ≤ i → i < n + n → all i ≡ g (i - n))
@@ -46,71 +49,90 @@ sheet_lines_lem sheet =
     (λ i l m. rw (le-ltb i 16384 l, lt-ltb i 32768 m))
     (λ i l. rw (le-ltb i 16384 (omega arith), le-ltb i 32768 l))
 
-module _ (stats : List PassStats) (sheet : List ℕ) where
+-- the lines behind the passes': three of the roles, in order, and the sheet's
+module _ (outcomes : List RoledStats) (sheet : List ℕ) where
+  role_part : lines_from (after_passes outcomes sheet) 0 3 ≡ role_lines outcomes
+  unfolding lines_from role_lines after_passes role_numbered
+  role_part = ap (λ (l : List ℕ). line_of_role outcomes Role.Plant ++ (line_of_role outcomes Role.Depot ++ l)) (append-nil (line_of_role outcomes Role.Dealer))
+
+  behind_roles_lem : (n : ℕ) → lines_from (after_passes outcomes sheet) 3 n ≡ lines_from (sheet_line sheet) 0 n
+  behind_roles_lem n =
+      lines_same (after_passes outcomes sheet) (sheet_line sheet) 3 0 n
+      (λ a b l m e. let d : a ≡ 3 + b = omega arith in ap (after_passes outcomes sheet) d ∙ sym (behind_roles outcomes sheet b))
+
+  after_part : lines_from (after_passes outcomes sheet) 0 49155 ≡ role_lines outcomes ++ sheet_text sheet
+  unfolding sheet_text
+  after_part = lines_split (after_passes outcomes sheet) 0 3 49152 ∙ ap₂ ◌++◌ role_part (behind_roles_lem 49152 ∙ sheet_lines_lem sheet)
+
+module _ (outcomes : List RoledStats) (sheet : List ℕ) where
   -- the lines after the heading
-  behind : (n : ℕ) → lines_from (result_line stats sheet) 1 n ≡ lines_from (after_heading stats sheet) 0 n
+  behind : (n : ℕ) → lines_from (result_line outcomes sheet) 1 n ≡ lines_from (after_heading outcomes sheet) 0 n
   unfolding result_line
-  behind n = lines_same (result_line stats sheet) (after_heading stats sheet) 1 0 n (λ a b l m e. let d : a ≡ suc b = omega arith in rw d)
+  behind n = lines_same (result_line outcomes sheet) (after_heading outcomes sheet) 1 0 n (λ a b l m e. let d : a ≡ suc b = omega arith in rw d)
 
-  pass_part : lines_from (after_heading stats sheet) 0 (length stats) ≡ pass_lines stats
-  pass_part = lines_same (after_heading stats sheet) (pass_line_at stats) 0 0 (length stats) (λ a b l m e. same a b (omega arith) (omega arith)) ∙ pass_lines_lem stats
+  pass_part : lines_from (after_heading outcomes sheet) 0 (length outcomes) ≡ pass_lines outcomes
+  pass_part = lines_same (after_heading outcomes sheet) (pass_line_at outcomes) 0 0 (length outcomes) (λ a b l m e. same a b (omega arith) (omega arith)) ∙ pass_lines_lem outcomes
     where
-      same : (a b : ℕ) → a ≡ b → a < length stats → after_heading stats sheet a ≡ pass_line_at stats b
-      same a b e l = ap (λ (t : Bool). cond t (pass_line_at stats a) (sheet_line sheet (a - length stats))) (lt-ltb a (length stats) l) ∙ ap (pass_line_at stats) e
+      same : (a b : ℕ) → a ≡ b → a < length outcomes → after_heading outcomes sheet a ≡ pass_line_at outcomes b
+      same a b e l =
+          ap (λ (t : Bool). cond t (pass_line_at outcomes a) (after_passes outcomes sheet (a - length outcomes))) (lt-ltb a (length outcomes) l)
+          ∙ ap (pass_line_at outcomes) e
 
-  sheet_part : (n : ℕ) → lines_from (after_heading stats sheet) (length stats) n ≡ lines_from (sheet_line sheet) 0 n
-  sheet_part n = lines_same (after_heading stats sheet) (sheet_line sheet) (length stats) 0 n (λ a b l m e. same a b (omega arith) l)
+  rest_part : (n : ℕ) → lines_from (after_heading outcomes sheet) (length outcomes) n ≡ lines_from (after_passes outcomes sheet) 0 n
+  rest_part n = lines_same (after_heading outcomes sheet) (after_passes outcomes sheet) (length outcomes) 0 n (λ a b l m e. same a b (omega arith) l)
     where
-      same : (a b : ℕ) → a - length stats ≡ b → length stats ≤ a → after_heading stats sheet a ≡ sheet_line sheet b
-      same a b e l = ap (λ (t : Bool). cond t (pass_line_at stats a) (sheet_line sheet (a - length stats))) (le-ltb a (length stats) l) ∙ ap (sheet_line sheet) e
+      same : (a b : ℕ) → a - length outcomes ≡ b → length outcomes ≤ a → after_heading outcomes sheet a ≡ after_passes outcomes sheet b
+      same a b e l =
+          ap (λ (t : Bool). cond t (pass_line_at outcomes a) (after_passes outcomes sheet (a - length outcomes))) (le-ltb a (length outcomes) l)
+          ∙ ap (after_passes outcomes sheet) e
 
-  pub from_the_start : result_from stats sheet 0 ≡ result_text stats sheet
+  pub from_the_start : result_from outcomes sheet 0 ≡ result_text outcomes sheet
   unfolding result_from result_text result_line
   from_the_start =
-      ap (lines_from (result_line stats sheet) 0) whole
-      ∙ one_line_more (result_line stats sheet) 0 (length stats + 49152)
+      ap (lines_from (result_line outcomes sheet) 0) whole
+      ∙ one_line_more (result_line outcomes sheet) 0 (length outcomes + 49155)
       ∙ ap (λ (l : List ℕ). heading ++ l)
-      (behind (length stats + 49152)
-      ∙ lines_split (after_heading stats sheet) 0 (length stats) 49152
-      ∙ ap₂ ◌++◌ pass_part (ap (λ (k : ℕ). lines_from (after_heading stats sheet) k 49152) none ∙ sheet_part 49152 ∙ sheet_lines_lem sheet))
+      (behind (length outcomes + 49155)
+      ∙ lines_split (after_heading outcomes sheet) 0 (length outcomes) 49155
+      ∙ ap₂ ◌++◌ pass_part (ap (λ (k : ℕ). lines_from (after_heading outcomes sheet) k 49155) none ∙ rest_part 49155 ∙ after_part outcomes sheet))
     where
-      whole : line_count (length stats) - 0 ≡ line_count (length stats)
+      whole : line_count (length outcomes) - 0 ≡ line_count (length outcomes)
       whole = omega arith
 
-      none : 0 + length stats ≡ length stats
+      none : 0 + length outcomes ≡ length outcomes
       none = omega arith
 
   -- ---- a piece
 
   module _ (k room : ℕ) where
-    left : (next : ℕ) → k ≤ next → k + (line_count (length stats) - k) - next ≡ line_count (length stats) - next
+    left : (next : ℕ) → k ≤ next → k + (line_count (length outcomes) - k) - next ≡ line_count (length outcomes) - next
     left next h = omega arith
 
-    of : Cut (result_line stats sheet) (line_count (length stats) - k) k (result_piece stats sheet k room)
+    of : Cut (result_line outcomes sheet) (line_count (length outcomes) - k) k (result_piece outcomes sheet k room)
     unfolding result_piece
-    of = cut (result_line stats sheet) (line_count (length stats) - k) k room
+    of = cut (result_line outcomes sheet) (line_count (length outcomes) - k) k room
 
     -- a piece and the text from its next line on are the text from its first line on
-    pub piece_joins : (p : Piece) → p ≡ result_piece stats sheet k room → p.text ++ result_from stats sheet p.next ≡ result_from stats sheet k
+    pub piece_joins : (p : Piece) → p ≡ result_piece outcomes sheet k room → p.text ++ result_from outcomes sheet p.next ≡ result_from outcomes sheet k
     unfolding result_from
-    piece_joins p e = rw (e, ← left (result_piece stats sheet k room).next of.from) of.joins
+    piece_joins p e = rw (e, ← left (result_piece outcomes sheet k room).next of.from) of.joins
 
     -- it is some lines long, if there is room for any line, and goes no further than the last
-    pub piece_moves : k < line_count (length stats) → 128 ≤ room → k < (result_piece stats sheet k room).next
+    pub piece_moves : k < line_count (length outcomes) → 128 ≤ room → k < (result_piece outcomes sheet k room).next
     unfolding result_piece
-    piece_moves h r = moves (result_line stats sheet) (line_count (length stats) - k) k room (omega arith) r
+    piece_moves h r = moves (result_line outcomes sheet) (line_count (length outcomes) - k) k room (omega arith) r
 
-    pub piece_stops : k ≤ line_count (length stats) → (result_piece stats sheet k room).next ≤ line_count (length stats)
+    pub piece_stops : k ≤ line_count (length outcomes) → (result_piece outcomes sheet k room).next ≤ line_count (length outcomes)
     piece_stops h = let high = of.upto in omega arith
 
     -- and no longer than the room, if no line is longer than 127 bytes
-    pub piece_fits : ((i : ℕ) → i < line_count (length stats) → length (result_line stats sheet i) ≤ 127) → length (result_piece stats sheet k room).text ≤ room
+    pub piece_fits : ((i : ℕ) → i < line_count (length outcomes) → length (result_line outcomes sheet i) ≤ 127) → length (result_piece outcomes sheet k room).text ≤ room
     unfolding result_piece
-    piece_fits short = fits (result_line stats sheet) (line_count (length stats) - k) k room (λ i a b. short i (omega arith))
+    piece_fits short = fits (result_line outcomes sheet) (line_count (length outcomes) - k) k room (λ i a b. short i (omega arith))
 
 -- ---- what is lent
 
-module _ (l : TextLent) (tame : wild l ≡ false) where
+module _ (l : TextLent) (few : l.passes ≤ 16) (tame : wild l ≡ false) where
   -- "No line is longer than 127 bytes"
-  pub line_short : (k : ℕ) → k < line_count l.passes → length (result_line (stats_in l.passes l.words) l.sheet k) ≤ 127
-  line_short k h = short.line_short l tame k h
+  pub line_short : (k : ℕ) → k < line_count l.passes → length (result_line (outcomes_in l.passes l.words) l.sheet k) ≤ 127
+  line_short k h = short.line_short l few tame k h

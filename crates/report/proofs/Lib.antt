@@ -1,6 +1,7 @@
 -- The laws of a result's text: `Laws` is the file to cite.
 pub mod Joining
 pub mod Numbered
+pub mod Sums
 pub mod Short
 pub mod Trying
 pub mod Laws

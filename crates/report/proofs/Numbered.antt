@@ -8,40 +8,58 @@ use borrow.Author.Tests.{lt-ltb, le-ltb, ltb-true, ltb-false}
 use lib.Dec.{ltb}
 use Rattle.std.specs.Prelude.{Option, None, Some, SomeIff}
 use lib.ListN.{length, length-append}
-use Rattle.report_line.specs.Result.{pass_line, pass_line_at, sheet_line, lines_from, result_line, line_count, result_from}
-use Rattle.report_words.specs.Outcomes.{stats_at, stats_in}
+use Rattle.roles.specs.Roles.{role_numbered}
+use Rattle.role_counts.specs.RoleCounts.{RoledStats}
+use Rattle.report_line.specs.Result.{pass_line, line_of_role, pass_line_at, after_passes, sheet_line, lines_from, result_line, line_count, result_from}
+use Rattle.report_words.specs.Outcomes.{stats_at, outcomes_in}
 use Rattle.report.specs.Asked.{line_at, text_from}
 use Rattle.report.proofs.Joining.{no_lines, one_line_more}
-use Rattle.report_words.proofs.Outcomes.{stats_length, pass_line_at_lem}
+use Rattle.report_words.proofs.Outcomes.{outcomes_length, pass_line_at_lem}
 
 -- ---- lines by their numbers
 
+module _ (outcomes : List RoledStats) (sheet : List ℕ) (m : ℕ) where
+  pub among_roles : m < 3 → line_of_role outcomes (role_numbered m) ≡ after_passes outcomes sheet m
+  unfolding after_passes
+  among_roles l = rw (lt-ltb m 3 l)
+
+  pub behind_roles : sheet_line sheet m ≡ after_passes outcomes sheet (3 + m)
+  unfolding after_passes
+  behind_roles = let e : 3 + m - 3 ≡ m = omega arith in rw (le-ltb (3 + m) 3 (omega arith), e)
+
 module _ (passes : ℕ) (words sheet : List ℕ) where
   -- the line after line 0
-  after : (k : ℕ) → line_at passes words sheet (suc k) ≡ cond (ltb k passes) (pass_line_at (stats_in passes words) k) (sheet_line sheet (k - passes))
+  after : (k : ℕ) → line_at passes words sheet (suc k) ≡ cond (ltb k passes) (pass_line_at (outcomes_in passes words) k) (after_passes (outcomes_in passes words) sheet (k - passes))
   unfolding line_at result_line
-  after k = rw (stats_length words 0 passes)
+  after k = rw (outcomes_length words 0 passes)
 
   pub pass_line_holds : (k j : ℕ) → k ≡ suc j → j < passes → pass_line (stats_at words j) ≡ line_at passes words sheet k
   pass_line_holds k j e l =
       sym (pass_line_at_lem words 0 passes j j l (omega arith))
-      ∙ sym (ap (λ (t : Bool). cond t (pass_line_at (stats_in passes words) j) (sheet_line sheet (j - passes))) (lt-ltb j passes l))
+      ∙ sym (ap (λ (t : Bool). cond t (pass_line_at (outcomes_in passes words) j) (after_passes (outcomes_in passes words) sheet (j - passes))) (lt-ltb j passes l))
       ∙ sym (after j)
       ∙ ap (line_at passes words sheet) (sym e)
 
-  pub sheet_line_lem : (k m : ℕ) → k ≡ suc (passes + m) → sheet_line sheet m ≡ line_at passes words sheet k
-  sheet_line_lem k m e =
+  -- the lines behind those of the passes
+  behind_passes : (k m : ℕ) → k ≡ suc (passes + m) → after_passes (outcomes_in passes words) sheet m ≡ line_at passes words sheet k
+  behind_passes k m e =
       let d : m ≡ passes + m - passes = omega arith in
-      ap (sheet_line sheet) d
-      ∙ sym (ap (λ (t : Bool). cond t (pass_line_at (stats_in passes words) (passes + m)) (sheet_line sheet (passes + m - passes))) (le-ltb (passes + m) passes (omega arith)))
+      ap (after_passes (outcomes_in passes words) sheet) d
+      ∙ sym (ap (λ (t : Bool). cond t (pass_line_at (outcomes_in passes words) (passes + m)) (after_passes (outcomes_in passes words) sheet (passes + m - passes))) (le-ltb (passes + m) passes (omega arith)))
       ∙ sym (after (passes + m))
       ∙ ap (line_at passes words sheet) (sym e)
+
+  pub role_line_holds : (k m : ℕ) → k ≡ suc (passes + m) → m < 3 → line_of_role (outcomes_in passes words) (role_numbered m) ≡ line_at passes words sheet k
+  role_line_holds k m e l = among_roles (outcomes_in passes words) sheet m l ∙ behind_passes k m e
+
+  pub sheet_line_lem : (k m : ℕ) → k ≡ suc (passes + (3 + m)) → sheet_line sheet m ≡ line_at passes words sheet k
+  sheet_line_lem k m e = behind_roles (outcomes_in passes words) sheet m ∙ behind_passes k (3 + m) e
 
   -- ---- the text line by line
 
   as_lines : (k : ℕ) → text_from passes words sheet k ≡ lines_from (line_at passes words sheet) k (line_count passes - k)
   unfolding text_from result_from line_at
-  as_lines k = ap (λ (n : ℕ). lines_from (result_line (stats_in passes words) sheet) k (line_count n - k)) (stats_length words 0 passes)
+  as_lines k = ap (λ (n : ℕ). lines_from (result_line (outcomes_in passes words) sheet) k (line_count n - k)) (outcomes_length words 0 passes)
 
   pub text_more : (k : ℕ) → k < line_count passes → text_from passes words sheet k ≡ line_at passes words sheet k ++ text_from passes words sheet (suc k)
   text_more k h =

@@ -11,17 +11,22 @@ use lib.ListN.{length, take, drop, length-append, length-drop}
 use Rattle.passes.specs.declared.PassStats.{PassStats}
 use Rattle.line_form.specs.Written.{Wrote}
 use Rattle.line_form.proofs.Reading.{part}
-use Rattle.report_line.specs.Result.{heading, pass_line, sheet_line, line_count, result_line, Piece, ending, joined, piece_of, result_piece}
-use Rattle.report_line.specs.Written.{Few, StatsAsked, LineAsked as SheetAsked}
+use Rattle.roles.specs.Roles.{role_numbered}
+use Rattle.roles.specs.declared.Role.{Role}
+use Rattle.role_counts.specs.RoleCounts.{sum_for}
+use Rattle.role_counts.specs.declared.RoleCounts.{RoleCounts}
+use Rattle.report_line.specs.Result.{heading, pass_line, role_line, line_of_role, sheet_line, line_count, result_line, Piece, ending, joined, piece_of, result_piece}
+use Rattle.report_line.specs.Written.{Few, StatsAsked, RoleAsked, LineAsked as SheetAsked}
 use Rattle.report_line.proofs.Forms.{same_room}
 use Rattle.report_line.proofs.Behind.{front_length, one_more}
 use Rattle.arguments.specs.Front.{over}
-use Rattle.report_words.specs.Outcomes.{word_at, counts_at, stats_at, stats_in}
+use Rattle.report_words.specs.Outcomes.{word_at, counts_at, stats_at, outcomes_in}
 use Rattle.report_words.specs.Asked.{grow_at, fill_at, local_at, Tame}
 use Rattle.report.specs.Asked.{PassAsked, LineAsked, AllAsked, SomeAsked, WrotePiece, line_at, text_from, piece_from}
 use Rattle.report.specs.declared.lines.PieceEnd.{PieceEnd}
-use Rattle.report.proofs.Numbered.{pass_line_holds, sheet_line_lem, text_more, text_ends}
-use Rattle.report_words.proofs.Outcomes.{stats_length, residual_finite, unmatched_few}
+use Rattle.report.proofs.Numbered.{pass_line_holds, role_line_holds, sheet_line_lem, text_more, text_ends}
+use Rattle.report.proofs.Sums.{sums_held}
+use Rattle.report_words.proofs.Outcomes.{outcomes_length, residual_finite, unmatched_few}
 
 -- ---- pass lines, by the outcome's kind
 
@@ -117,7 +122,7 @@ module _ (passes : ℕ) (words sheet old new : List ℕ) (at k : ℕ) (a : AllAs
 module _ (passes : ℕ) (words sheet : List ℕ) where
   as_pieces : (k room : ℕ) → piece_from passes words sheet k room ≡ piece_of (line_at passes words sheet) (line_count passes - k) k room
   unfolding piece_from result_piece line_at
-  as_pieces k room = ap (λ (n : ℕ). piece_of (result_line (stats_in passes words) sheet) (line_count n - k) k room) (stats_length words 0 passes)
+  as_pieces k room = ap (λ (n : ℕ). piece_of (result_line (outcomes_in passes words) sheet) (line_count n - k) k room) (outcomes_length words 0 passes)
 
   step : (line : ℕ → List ℕ) (n m k room : ℕ) → m ≡ suc n → 128 ≤ room → piece_of line m k room ≡ joined (line k) (piece_of line n (suc k) (room - length (line k)))
   unfolding piece_of
@@ -206,6 +211,14 @@ module _ (passes : ℕ) (words sheet : List ℕ) (k : ℕ) where
   unfolding line_at result_line
   heading_is e = rw e
 
+  pub role_is : (m : ℕ) (r : Role) → k ≡ suc (passes + m) → m < 3 → r ≡ role_numbered m → (sum : RoleCounts) → sum ≡ sum_for r (outcomes_in passes words)
+      → role_line r sum ≡ line_at passes words sheet k
+  unfolding line_of_role
+  role_is m r e l q sum is =
+      ap (role_line r) is
+      ∙ ap (λ (o : Role). role_line o (sum_for o (outcomes_in passes words))) q
+      ∙ role_line_holds passes words sheet k m e l
+
   module _ (out : List ℕ) (a : LineAsked passes words sheet k out) where
     pub pass_asked : (j : ℕ) → k ≡ suc j → j < passes → PassAsked words j out
     pass_asked j e l =
@@ -215,7 +228,15 @@ module _ (passes : ℕ) (words sheet : List ℕ) (k : ℕ) where
           room = same_room _ _ out (pass_line_holds passes words sheet k j e l) a.room;
         }
 
-    pub sheet_asked : (m : ℕ) → k ≡ suc (passes + m) → SheetAsked sheet m (sheet_line sheet m) out
+    pub role_asked : (m : ℕ) (r : Role) → k ≡ suc (passes + m) → m < 3 → r ≡ role_numbered m → (sum : RoleCounts) → sum ≡ sum_for r (outcomes_in passes words)
+        → RoleAsked r sum out
+    role_asked m r e l q sum is =
+        record {
+          few = rw is (sums_held r passes words a.sound.few a.sound.tame);
+          room = same_room _ _ out (role_is m r e l q sum is) a.room;
+        }
+
+    pub sheet_asked : (m : ℕ) → k ≡ suc (passes + (3 + m)) → SheetAsked sheet m (sheet_line sheet m) out
     sheet_asked m e =
         let b = a.below in
         record {

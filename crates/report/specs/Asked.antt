@@ -3,12 +3,14 @@ use Rattle.std.specs.Prelude.{◌≡◌, Bool, true, false, ◌||◌, cond, List
 use Rattle.arguments.specs.Arguments.{Checked, refused_if, unknown_corner, doubled_corner}
 use Rattle.refusal.specs.declared.Refusal.{Refusal}
 use Rattle.report_line.specs.Result.{pass_line, result_line, line_count, result_from, Piece, result_piece}
-use Rattle.sizes.specs.Sizes.{place_count, corner_limit, outcome_size}
+use Rattle.roles.specs.Roles.{role_numbered}
+use Rattle.sizes.specs.Sizes.{place_count, corner_limit, pass_limit, outcome_size}
+use Rattle.report_line.specs.Sizes.{role_line_count}
 use Rattle.line_form.specs.Written.{Wrote}
 use Rattle.report.specs.WriteResult.{TextLent, over_limit, wild}
 use Rattle.report.specs.declared.lines.Line.{Line}
 use Rattle.report.specs.declared.lines.PieceEnd.{PieceEnd}
-use Rattle.report_words.specs.Outcomes.{stats_at, stats_in}
+use Rattle.report_words.specs.Outcomes.{stats_at, outcomes_in}
 use Rattle.report_words.specs.Asked.{Tame, TameOutcome}
 
 -- ---- what is lent
@@ -18,26 +20,28 @@ pub record AllLent (passes : ℕ) (words sheet : List ℕ) : Type 0 where
   pub words_long : outcome_size * passes ≤ length words
   pub sheet_long : place_count ≤ length sheet
 
--- and the outcomes are what they can be
+-- and there are no more outcomes than a frame has passes, which are what they can be
 pub record Sound (passes : ℕ) (words sheet : List ℕ) : Type 0 where
   pub all : AllLent passes words sheet
+  pub few : passes ≤ pass_limit
   pub tame : (k : ℕ) → k < passes → Tame words k
 
 -- ---- lines
 
 -- line k
 unfoldable pub line_at : ℕ → List ℕ → List ℕ → ℕ → List ℕ
-line_at passes words sheet k = result_line (stats_in passes words) sheet k
+line_at passes words sheet k = result_line (outcomes_in passes words) sheet k
 
--- which line has number k: the heading, that of pass m, or line m of the sheet
+-- which line has number k: the heading, that of pass m, that of the role of number m, or line m of the sheet
 abbrev pub IsLine : ℕ → ℕ → Line → Type 0
 IsLine passes k Line.Heading = k ≡ 0
 IsLine passes k (Line.Pass m) = (k ≡ suc m) × (m < passes)
-IsLine passes k (Line.OfSheet m) = k ≡ suc (passes + m)
+IsLine passes k (Line.OfRole r) = (m : ℕ) × (k ≡ suc (passes + m)) × (m < role_line_count) × (r ≡ role_numbered m)
+IsLine passes k (Line.OfSheet m) = k ≡ suc (passes + (role_line_count + m))
 
 -- the text from line k on
 unfoldable pub text_from : ℕ → List ℕ → List ℕ → ℕ → List ℕ
-text_from passes words sheet k = result_from (stats_in passes words) sheet k
+text_from passes words sheet k = result_from (outcomes_in passes words) sheet k
 
 -- there is a line k
 pub record HasLine (passes : ℕ) (words sheet : List ℕ) (k : ℕ) : Type 0 where
@@ -46,7 +50,8 @@ pub record HasLine (passes : ℕ) (words sheet : List ℕ) (k : ℕ) : Type 0 wh
 
 -- a line of the sheet whose place holds nothing: no corner and no mark
 unfoldable pub blank_at : ℕ → List ℕ → ℕ → Bool
-blank_at passes sheet k = cond (leb k passes) false (eqb (get_or sheet ((k - 1 - passes) % place_count) 0) 0)
+blank_at passes sheet k =
+    cond (leb k (passes + role_line_count)) false (eqb (get_or sheet ((k - 1 - passes - role_line_count) % place_count) 0) 0)
 
 -- the n lines from line k on are of places that hold nothing
 pub record BlankLines (passes : ℕ) (sheet : List ℕ) (k n : ℕ) : Type 0 where
@@ -60,7 +65,7 @@ pub record Skipped (passes : ℕ) (words sheet : List ℕ) (k r : ℕ) : Type 0 
 
 -- a piece from line k on
 unfoldable pub piece_from : ℕ → List ℕ → List ℕ → ℕ → ℕ → Piece
-piece_from passes words sheet k room = result_piece (stats_in passes words) sheet k room
+piece_from passes words sheet k room = result_piece (outcomes_in passes words) sheet k room
 
 -- ---- what the writers ask
 

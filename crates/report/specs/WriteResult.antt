@@ -8,7 +8,7 @@ use Rattle.report_line.specs.Result.{result_text, Piece, result_piece, line_coun
 use Rattle.sizes.specs.Sizes.{place_count, corner_limit, pass_limit, outcome_size}
 use Rattle.report_line.specs.Sizes.{line_room}
 use Rattle.arguments.specs.Front.{over}
-use Rattle.report_words.specs.Outcomes.{stats_in, wild_outcome}
+use Rattle.report_words.specs.Outcomes.{outcomes_in, wild_outcome}
 use Rattle.report.specs.declared.lines.PieceEnd.{PieceEnd}
 
 -- ---- what is lent: how many corners and passes, the outcomes' words, the sheet, and how long the buffer for the text is
@@ -23,7 +23,7 @@ abbrev pub text_lent : ℕ → ℕ → List ℕ → List ℕ → TextLent
 text_lent corners passes words sheet = record { corners = corners; passes = passes; words = words; sheet = sheet }
 
 abbrev pub text_of : TextLent → List ℕ
-text_of l = result_text (stats_in l.passes l.words) l.sheet
+text_of l = result_text (outcomes_in l.passes l.words) l.sheet
 
 -- 7: words and sheet are there
 unfoldable pub input_short : TextLent → Bool
@@ -72,7 +72,7 @@ writes_text l out = text_leaves (checked_text l (length out)) l out
 -- ---- a piece of it
 
 abbrev pub piece_in : TextLent → ℕ → ℕ → Piece
-piece_in l from room = result_piece (stats_in l.passes l.words) l.sheet from room
+piece_in l from room = result_piece (outcomes_in l.passes l.words) l.sheet from room
 
 -- 7: there is room for any line; 3: there is such a line, or it is the one after the last
 unfoldable pub checked_piece : TextLent → ℕ → ℕ → Checked

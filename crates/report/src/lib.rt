@@ -14,7 +14,7 @@ pub use lines::PieceEnd;
 use refusal::Refusal;
 
 // Writes the whole text of a result to the front of a buffer, and leaves the rest of it as it was: how many bytes were written, or why nothing was. It is lent the outcomes of the passes as words,
-// eleven for each, and the sheet, and told how many passes and corners there are. `said` is the same answer in 01's number or values.
+// twelve for each, and the sheet, and told how many passes and corners there are. `said` is the same answer in 01's number or values.
 // Stays: each is lent by itself, as the C interface lends it (a).
 pub fn write_result(
     corners: usize,

@@ -1,23 +1,30 @@
-// The lines of a result by their numbers: 0 is the heading, then one line for each pass (local's two count as one), then 16,384 lines each of cells,
-// holes and ambiguous cells, most of them empty.
+// The lines of a result by their numbers: 0 is the heading, then one line for each pass (local's two count as one), then one for each role, then
+// 16,384 lines each of cells, holes and ambiguous cells, most of them empty.
 ghost use Rattle.std.specs.Prelude.{◌≡◌, ◌<◌, ltb, length, is_none};
 ghost use Rattle.line_form.specs.Written.{Wrote};
+ghost use Rattle.role_counts.specs.RoleCounts.{sum_for, AtMost};
+ghost use Rattle.report_line.specs.Sizes.{largest_sum};
 ghost use Rattle.report_line.specs.Result.{pass_line, line_count};
-ghost use Rattle.report_words.specs.Outcomes.{stats_at};
+ghost use Rattle.report_words.specs.Outcomes.{stats_at, outcomes_in};
 ghost use Rattle.report.specs.Asked.{AllLent, PassAsked, LineAsked, AllAsked, SomeAsked, IsLine};
 ghost use Rattle.report.specs.Asked.{WrotePiece, BlankLines, Skipped, line_at, text_from, piece_from};
 
 use pass_line::write_stats;
 use report_line::line::{write_heading, write_sheet_line};
-use report_line::line_sizes::{LINE_ROOM, LINES, SHEET_LINES};
+use report_line::line_sizes::{LINE_ROOM, LINES, ROLE_LINES, SHEET_LINES};
+use report_line::role::{role_length, write_role};
 use report_words::read::Outcome;
+use role_counts::RoleCounts;
+use roles::Role;
 use sizes::PLACES;
 
-// A line of a result: the heading, the pass line of an outcome or a line of the sheet, each of the last two by its number among its like.
+// A line of a result: the heading, the pass line of an outcome, that of a role, or a line of the sheet. A pass and a line of the sheet have their
+// numbers among their like.
 #[derive(Clone, Copy)]
 enum Line {
     Heading,
     Pass(usize),
+    OfRole(Role),
     OfSheet(usize),
 }
 
@@ -60,8 +67,28 @@ impl Source<'_> {
         match k.checked_sub(1) {
             None => Line::Heading,
             Some(m) if m < self.passes => Line::Pass(m),
-            Some(m) => Line::OfSheet(m - self.passes),
+            Some(m) if m - self.passes < ROLE_LINES => {
+                Line::OfRole(roles::numbered((m - self.passes) as u32))
+            }
+            Some(m) => Line::OfSheet(m - self.passes - ROLE_LINES),
         }
+    }
+
+    // The sums of a role's counts: those of the passes that it ran, whatever their words are.
+    fn sum_for(&self, role: Role) -> RoleCounts
+        ensures value { result ≡ sum_for role (outcomes_in self.now.passes self.now.words.now) }
+        ensures few { AtMost largest_sum result }
+    {
+        let words = self.words;
+        let mut sum = RoleCounts::default();
+        // Stays: an outcome is words at its place, so that it has only its number, and one of another role adds nothing (d).
+        for k in 0..self.passes {
+            let outcome = Outcome { words, k };
+            if roles::number(outcome.role_at()) == roles::number(role) {
+                sum = sum.plus(outcome.role_counts_at());
+            }
+        }
+        sum
     }
 
     // The length of line k: what its writer writes.
@@ -74,6 +101,7 @@ impl Source<'_> {
         match self.line(k) {
             Line::Heading => write_heading(&mut line),
             Line::Pass(k) => pass_length(&Outcome { words, k }),
+            Line::OfRole(role) => role_length(role, self.sum_for(role)),
             Line::OfSheet(k) => write_sheet_line(self.sheet, k, &mut line),
         }
     }
@@ -106,6 +134,7 @@ impl Source<'_> {
         match self.line(k) {
             Line::Heading => write_heading(out),
             Line::Pass(k) => write_pass(&Outcome { words, k }, out),
+            Line::OfRole(role) => write_role(role, self.sum_for(role), out),
             Line::OfSheet(k) => write_sheet_line(self.sheet, k, out),
         }
     }
@@ -128,7 +157,7 @@ impl Source<'_> {
         ensures { BlankLines self.now.passes self.now.sheet.now k result }
     {
         match self.line(k) {
-            Line::Heading | Line::Pass(_) => 0,
+            Line::Heading | Line::Pass(_) | Line::OfRole(_) => 0,
             Line::OfSheet(m) => sheet::blank_places(self.sheet, m % PLACES),
         }
     }
@@ -138,7 +167,7 @@ impl Source<'_> {
         requires { k < line_count self.now.passes }
         ensures { Skipped self.now.passes self.now.words.now self.now.sheet.now k result }
     {
-        let last = self.passes + SHEET_LINES;
+        let last = self.passes + ROLE_LINES + SHEET_LINES;
         let mut r = k;
         // Stays: the step is how many lines are passed over, and not 1 (d).
         while r < last {

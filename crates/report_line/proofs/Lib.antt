@@ -5,4 +5,5 @@ pub mod Short
 pub mod Like
 pub mod Forms
 pub mod Said
+pub mod RoleLine
 pub mod Behind

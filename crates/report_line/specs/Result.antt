@@ -1,5 +1,6 @@
 -- The text of a result (document 01, "Frame and result": `(result 1)`, "After the first line stand the pass lines as run. .. Then cells (cell,
--- corner), holes, `(ambiguous (i j))`, each by i, then j."; document 02, 1/14: `(unmatched count)` behind local's line). Definitions only.
+-- corner), holes, `(ambiguous (i j))`, each by i, then j."; document 02, 1/14: `(unmatched count)` behind local's line; 7/14: the counts for each
+-- role). Definitions only.
 use Rattle.std.specs.Prelude.{Bool, true, false, cond, List, [], ◌∷◌, ◌++◌, ℕ, zero, suc, ◌+◌, ◌-◌, pos, ltb, length, get_or, Option, None, Some, Float}
 use Rattle.std.specs.Float.{binary32}
 use Rattle.std.specs.Float.Ieee.{to_bits}
@@ -12,8 +13,12 @@ use Rattle.passes.specs.declared.GrowStats.{GrowStats}
 use Rattle.passes.specs.declared.FillStats.{FillStats}
 use Rattle.passes.specs.declared.LocalStats.{LocalStats}
 use Rattle.passes.specs.declared.PassStats.{PassStats}
+use Rattle.roles.specs.Roles.{role_numbered}
+use Rattle.roles.specs.declared.Role.{Role}
+use Rattle.role_counts.specs.RoleCounts.{RoledStats, sum_for}
+use Rattle.role_counts.specs.declared.RoleCounts.{RoleCounts}
 use Rattle.sizes.specs.Sizes.{place_count}
-use Rattle.report_line.specs.Sizes.{sheet_lines, first_ambiguous, line_room}
+use Rattle.report_line.specs.Sizes.{role_line_count, sheet_lines, first_ambiguous, line_room}
 
 abbrev pub count : ℕ → Number
 count n = whole (pos n)
@@ -71,9 +76,26 @@ pass_line (PassStats.Grow s) = grow_line s
 pass_line (PassStats.Fill s) = fill_line s
 pass_line (PassStats.Local s) = local_lines s
 
-unfoldable pub pass_lines : List PassStats → List ℕ
+unfoldable pub pass_lines : List RoledStats → List ℕ
 pass_lines [] = []
-pass_lines (s ∷ ss) = pass_line s ++ pass_lines ss
+pass_lines (s ∷ ss) = pass_line s.stats ++ pass_lines ss
+
+-- ---- the lines of the roles (document 02, 7/14): "print `(role name attached none ambiguous edge)` for plant, depot, dealer"
+
+abbrev pub role_form : Role → List ℕ
+role_form Role.Plant = bytes "(role plant # # # #)\n"
+role_form Role.Depot = bytes "(role depot # # # #)\n"
+role_form Role.Dealer = bytes "(role dealer # # # #)\n"
+
+unfoldable pub role_line : Role → RoleCounts → List ℕ
+role_line r c = printed (role_form r) (count c.attached ∷ count c.no_candidate ∷ count c.ambiguous ∷ count c.edge ∷ [])
+
+-- the line of a role whose passes are among those that ran
+unfoldable pub line_of_role : List RoledStats → Role → List ℕ
+line_of_role outcomes r = role_line r (sum_for r outcomes)
+
+unfoldable pub role_lines : List RoledStats → List ℕ
+role_lines outcomes = line_of_role outcomes Role.Plant ++ (line_of_role outcomes Role.Depot ++ line_of_role outcomes Role.Dealer)
 
 -- ---- the sheet's lines: that of a place, and none where the place has nothing to say
 
@@ -107,35 +129,42 @@ all_places line = lines_from line 0 place_count
 abbrev pub heading : List ℕ
 heading = bytes "(result 1)\n"
 
-unfoldable pub result_text : List PassStats → List ℕ → List ℕ
-result_text stats sheet = heading ++ (pass_lines stats ++ (all_places (cell_line sheet) ++ (all_places (hole_line sheet) ++ all_places (ambiguous_line sheet))))
+unfoldable pub sheet_text : List ℕ → List ℕ
+sheet_text sheet = all_places (cell_line sheet) ++ (all_places (hole_line sheet) ++ all_places (ambiguous_line sheet))
+
+-- "In every result, after the last pass line, with its unmatched line, and before the cells"
+unfoldable pub result_text : List RoledStats → List ℕ → List ℕ
+result_text outcomes sheet = heading ++ (pass_lines outcomes ++ (role_lines outcomes ++ sheet_text sheet))
 
 -- ---- the same text line by line, to be written piece by piece: line 0 is the heading, then one line for each pass (local's two count as one), then
--- 16,384 lines each of cells, holes and ambiguous cells, most of them empty
+-- one for each role, then 16,384 lines each of cells, holes and ambiguous cells, most of them empty
 
-abbrev pub pass_line_at : List PassStats → ℕ → List ℕ
+abbrev pub pass_line_at : List RoledStats → ℕ → List ℕ
 pass_line_at [] k = []
-pass_line_at (s ∷ ss) zero = pass_line s
+pass_line_at (s ∷ ss) zero = pass_line s.stats
 pass_line_at (s ∷ ss) (suc k) = pass_line_at ss k
 
 unfoldable pub sheet_line : List ℕ → ℕ → List ℕ
 sheet_line sheet k =
     cond (ltb k place_count) (cell_line sheet k) (cond (ltb k first_ambiguous) (hole_line sheet (k - place_count)) (ambiguous_line sheet (k - first_ambiguous)))
 
-abbrev pub after_heading : List PassStats → List ℕ → ℕ → List ℕ
-after_heading stats sheet k = cond (ltb k (length stats)) (pass_line_at stats k) (sheet_line sheet (k - length stats))
+unfoldable pub after_passes : List RoledStats → List ℕ → ℕ → List ℕ
+after_passes outcomes sheet k = cond (ltb k role_line_count) (line_of_role outcomes (role_numbered k)) (sheet_line sheet (k - role_line_count))
 
-unfoldable pub result_line : List PassStats → List ℕ → ℕ → List ℕ
-result_line stats sheet zero = heading
-result_line stats sheet (suc k) = after_heading stats sheet k
+abbrev pub after_heading : List RoledStats → List ℕ → ℕ → List ℕ
+after_heading outcomes sheet k = cond (ltb k (length outcomes)) (pass_line_at outcomes k) (after_passes outcomes sheet (k - length outcomes))
+
+unfoldable pub result_line : List RoledStats → List ℕ → ℕ → List ℕ
+result_line outcomes sheet zero = heading
+result_line outcomes sheet (suc k) = after_heading outcomes sheet k
 
 -- how many such lines there are, with p passes
 abbrev pub line_count : ℕ → ℕ
-line_count p = suc (p + sheet_lines)
+line_count p = suc (p + (role_line_count + sheet_lines))
 
 -- the text from line k on; from line 0 on it is the whole text (`proofs/`: `from_the_start`)
-unfoldable pub result_from : List PassStats → List ℕ → ℕ → List ℕ
-result_from stats sheet k = lines_from (result_line stats sheet) k (line_count (length stats) - k)
+unfoldable pub result_from : List RoledStats → List ℕ → ℕ → List ℕ
+result_from outcomes sheet k = lines_from (result_line outcomes sheet) k (line_count (length outcomes) - k)
 
 -- ---- a piece: whole lines from line k on, as long as 128 bytes are left before each
 
@@ -159,5 +188,5 @@ unfoldable pub piece_of : (ℕ → List ℕ) → ℕ → ℕ → ℕ → Piece
 piece_of line zero k room = ending k
 piece_of line (suc n) k room = piece_with (ltb room line_room) k room (line k) (λ left. piece_of line n (suc k) left)
 
-unfoldable pub result_piece : List PassStats → List ℕ → ℕ → ℕ → Piece
-result_piece stats sheet k room = piece_of (result_line stats sheet) (line_count (length stats) - k) k room
+unfoldable pub result_piece : List RoledStats → List ℕ → ℕ → ℕ → Piece
+result_piece outcomes sheet k room = piece_of (result_line outcomes sheet) (line_count (length outcomes) - k) k room

@@ -11,9 +11,12 @@ use Rattle.passes.specs.declared.GrowStats.{GrowStats}
 use Rattle.passes.specs.declared.FillStats.{FillStats}
 use Rattle.passes.specs.declared.LocalStats.{LocalStats}
 use Rattle.passes.specs.declared.PassStats.{PassStats}
+use Rattle.roles.specs.declared.Role.{Role}
+use Rattle.role_counts.specs.RoleCounts.{AtMost}
+use Rattle.role_counts.specs.declared.RoleCounts.{RoleCounts}
 use Rattle.sizes.specs.Sizes.{place_count}
 use Rattle.report_line.specs.Sizes.{sheet_lines}
-use Rattle.report_line.specs.Result.{grow_line, fill_line, local_line_with, local_line, unmatched_line, local_lines, cell_numbers, label_line}
+use Rattle.report_line.specs.Result.{grow_line, fill_line, local_line_with, local_line, unmatched_line, local_lines, role_line, cell_numbers, label_line}
 
 -- the largest number that a line can have: 32 bits hold 1,000,000 more
 abbrev pub largest_held : ℕ
@@ -85,6 +88,11 @@ abbrev pub StatsAsked : PassStats → List ℕ → Type 0
 StatsAsked (PassStats.Grow s) out = GrowAsked s out
 StatsAsked (PassStats.Fill s) out = FillAsked s out
 StatsAsked (PassStats.Local s) out = LocalAsked s out
+
+-- the line of a role: sums that a line can have
+pub record RoleAsked (r : Role) (c : RoleCounts) (out : List ℕ) : Type 0 where
+  pub few : AtMost largest_held c
+  pub room : length (role_line r c) ≤ length out
 
 -- ---- the sheet's lines
 

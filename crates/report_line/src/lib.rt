@@ -4,3 +4,4 @@
 
 pub mod line; // line.rt: a line written to the front of a part
 pub mod line_sizes; // line_sizes.rt: how many lines there are, and how long
+pub mod role; // role.rt: the line of a role

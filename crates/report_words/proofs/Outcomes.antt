@@ -1,7 +1,7 @@
 -- Outcomes as words: what the check of them says, the outcomes from a number on, and that reading what was put gives the outcome back. Assumes nothing.
 use Rattle.std.specs.Prelude.{Option, None, Some, is_some, IfSome}
 use Rattle.std.specs.Bool.{then_some}
-use mathlib.Core.Path.{◌≡◌, refl, sym, ap, ◌∙◌}
+use mathlib.Core.Path.{◌≡◌, refl, sym, ap, ap₂, ◌∙◌}
 use mathlib.Core.Bool.{Bool, true, false, not, ◌&&◌, ◌||◌, cond}
 use mathlib.Core.List.{List, [], ◌∷◌, ◌++◌}
 use Prim.Native.Nat.{ℕ, zero, suc, ◌+◌, ◌*◌, ◌%◌, ◌≤◌, ◌<◌}
@@ -22,13 +22,16 @@ use Rattle.passes.specs.declared.GrowStats.{GrowStats}
 use Rattle.passes.specs.declared.FillStats.{FillStats}
 use Rattle.passes.specs.declared.LocalStats.{LocalStats}
 use Rattle.passes.specs.declared.PassStats.{PassStats}
+use Rattle.roles.specs.Roles.{role_number, role_numbered}
+use Rattle.roles.specs.declared.Role.{Role}
+use Rattle.role_counts.specs.RoleCounts.{four_of, attached_alone, counts_of}
 use Rattle.arguments.proofs.Chains.{or_false_both}
 use Rattle.report_line.specs.Result.{pass_line, pass_line_at}
 use Rattle.report_line.specs.Like.{ResidualLike}
 use Rattle.sheet.specs.Words.{bit_of}
 use Rattle.sizes.specs.Sizes.{outcome_size}
-use Rattle.report_words.specs.Outcomes.{residual_words, unmatched_words, outcome_words, word_at, yes_at, residual_at, unmatched_at, largest_count, largest_unmatched, stats_at, stats_from, wild_counts, wild_residual, wild_unmatched, wild_outcome}
-use Rattle.report_words.specs.Asked.{Tame, FitsWord, UnmatchedFits, flag_of, bits_of, shade_flag, unmatched_word, FloatOrNone, IsFloat}
+use Rattle.report_words.specs.Outcomes.{residual_words, unmatched_words, outcome_words, word_at, counts_at, yes_at, residual_at, unmatched_at, largest_count, largest_unmatched, stats_at, outcome_at, outcomes_from, wild_counts, wild_residual, wild_unmatched, wild_outcome}
+use Rattle.report_words.specs.Asked.{grow_at, local_at, Tame, FitsWord, UnmatchedFits, flag_of, bits_of, shade_flag, unmatched_word, FloatOrNone, IsFloat}
 
 at_most : (a b : ℕ) → ltb a b ≡ false → b ≤ a
 at_most a b e = ltb-false a b e
@@ -64,7 +67,8 @@ tame words k e =
     let residual = or_false_both (wild_residual words k) _ rounds.1 in
     let flag = or_false_both (ltb 1 (word_at words k 6)) _ residual.0 in
     let rim = or_false_both (ltb 1 (word_at words k 8)) _ residual.1 in
-    let shades = or_false_both (ltb 1 (word_at words k 9)) _ rim.1 in
+    let last = or_false_both (wild_unmatched words k) _ rim.1 in
+    let shades = or_false_both (ltb 1 (word_at words k 9)) _ last.0 in
     record {
       kind = at_most _ _ kind.0;
       attached = at_most _ _ one.0;
@@ -79,17 +83,18 @@ tame words k e =
       unmatched = few_passed (word_at words k 9) (word_at words k 10) (word_at words k 0) shades.1;
       unshaded = none_passed (word_at words k 9) (word_at words k 10) (word_at words k 0) shades.1;
       local_alone = by_local (word_at words k 9) (word_at words k 10) (word_at words k 0) shades.1;
+      role = at_most _ _ last.1;
     }
 
 -- ---- the outcomes from a number on
 
-pub stats_length : (words : List ℕ) (k n : ℕ) → length (stats_from words k n) ≡ n
-unfolding stats_from
-stats_length words k zero = refl
-stats_length words k (suc n) = ap suc (stats_length words (suc k) n)
+pub outcomes_length : (words : List ℕ) (k n : ℕ) → length (outcomes_from words k n) ≡ n
+unfolding outcomes_from
+outcomes_length words k zero = refl
+outcomes_length words k (suc n) = ap suc (outcomes_length words (suc k) n)
 
-pub pass_line_at_lem : (words : List ℕ) (k n i j : ℕ) → i < n → j ≡ k + i → pass_line_at (stats_from words k n) i ≡ pass_line (stats_at words j)
-unfolding stats_from
+pub pass_line_at_lem : (words : List ℕ) (k n i j : ℕ) → i < n → j ≡ k + i → pass_line_at (outcomes_from words k n) i ≡ pass_line (stats_at words j)
+unfolding outcomes_from
 pass_line_at_lem words k zero i j h e = absurd (not-suc-le-zero h)
 pass_line_at_lem words k (suc n) zero j h e = let d : k ≡ j = omega arith in ap (λ (m : ℕ). pass_line (stats_at words m)) d
 pass_line_at_lem words k (suc n) (suc i) j h e = pass_line_at_lem words (suc k) n i j (omega arith) (omega arith)
@@ -132,45 +137,58 @@ there : (before after : List ℕ) (k m : ℕ) → length before ≡ outcome_size
 there before after k m e = rw (← e) (get_or-append-add before after m 0)
 
 -- local's words one by one
-pub local_listed : (s : LocalStats)
-    → outcome_words (PassStats.Local s)
+pub local_listed : (r : Role) (s : LocalStats)
+    → outcome_words r (PassStats.Local s)
     ≡ 2 ∷ s.counts.attached ∷ s.counts.rejected_no_candidate ∷ s.counts.rejected_ambiguous ∷ s.counts.rejected_edge ∷ s.iterations
-    ∷ flag_of s.residual ∷ bits_of s.residual ∷ bit_of s.rim ∷ shade_flag s.unmatched ∷ unmatched_word s.unmatched ∷ []
+    ∷ flag_of s.residual ∷ bits_of s.residual ∷ bit_of s.rim ∷ shade_flag s.unmatched ∷ unmatched_word s.unmatched ∷ role_number r ∷ []
 unfolding outcome_words
-local_listed s =
+local_listed r s =
     ap (λ (l : List ℕ). 2 ∷ s.counts.attached ∷ s.counts.rejected_no_candidate ∷ s.counts.rejected_ambiguous ∷ s.counts.rejected_edge ∷ s.iterations ∷ l)
     (go s.residual s.unmatched)
   where
-    go : (x : Option Float) (u : Option ℕ) → residual_words x (bit_of s.rim ∷ unmatched_words u) ≡ flag_of x ∷ bits_of x ∷ bit_of s.rim ∷ shade_flag u ∷ unmatched_word u ∷ []
+    go : (x : Option Float) (u : Option ℕ) → residual_words x (bit_of s.rim ∷ unmatched_words u (role_number r ∷ [])) ≡ flag_of x ∷ bits_of x ∷ bit_of s.rim ∷ shade_flag u ∷ unmatched_word u ∷ role_number r ∷ []
     go None None = refl
     go None (Some n) = refl
     go (Some x) None = refl
     go (Some x) (Some n) = refl
 
+-- the role of a role's number
+number_read : (r : Role) → role_numbered (role_number r) ≡ r
+unfolding role_numbered
+number_read Role.Plant = refl
+number_read Role.Depot = refl
+number_read Role.Dealer = refl
+
+role_said : (words : List ℕ) (k : ℕ) (r : Role) (s : PassStats) → word_at words k 11 ≡ role_number r → stats_at words k ≡ s
+    → outcome_at words k ≡ record { role = r; stats = s }
+role_said words k r s e11 e = ap₂ (λ (q : Role) (t : PassStats). record { role = q; stats = t }) (ap role_numbered e11 ∙ number_read r) e
+
 -- reading what was put gives the outcome back; a residual is to be a value of binary32
-pub decode_encode : (before after : List ℕ) (k : ℕ) (s : PassStats) → length before ≡ outcome_size * k → IsFloat s → stats_at (before ++ (outcome_words s ++ after)) k ≡ s
+pub decode_encode : (before after : List ℕ) (k : ℕ) (r : Role) (s : PassStats) → length before ≡ outcome_size * k → IsFloat s
+    → outcome_at (before ++ (outcome_words r s ++ after)) k ≡ record { role = r; stats = s }
 unfolding outcome_words
-decode_encode before after k (PassStats.Grow s) e f = grow_said_lem _ k s (at 0) (at 1) (at 2) (at 3) (at 4) (at 8)
+decode_encode before after k r (PassStats.Grow s) e f = role_said _ k r (PassStats.Grow s) (at 11) (grow_said_lem _ k s (at 0) (at 1) (at 2) (at 3) (at 4) (at 8))
   where
-    at : (m : ℕ) → word_at (before ++ (outcome_words (PassStats.Grow s) ++ after)) k m ≡ get_or (outcome_words (PassStats.Grow s) ++ after) m 0
-    at m = there before (outcome_words (PassStats.Grow s) ++ after) k m e
-decode_encode before after k (PassStats.Fill s) e f = fill_said_lem _ k s (at 0) (at 1) (at 5) (at 8)
+    at : (m : ℕ) → word_at (before ++ (outcome_words r (PassStats.Grow s) ++ after)) k m ≡ get_or (outcome_words r (PassStats.Grow s) ++ after) m 0
+    at m = there before (outcome_words r (PassStats.Grow s) ++ after) k m e
+decode_encode before after k r (PassStats.Fill s) e f = role_said _ k r (PassStats.Fill s) (at 11) (fill_said_lem _ k s (at 0) (at 1) (at 5) (at 8))
   where
-    at : (m : ℕ) → word_at (before ++ (outcome_words (PassStats.Fill s) ++ after)) k m ≡ get_or (outcome_words (PassStats.Fill s) ++ after) m 0
-    at m = there before (outcome_words (PassStats.Fill s) ++ after) k m e
-decode_encode before after k (PassStats.Local s) e f =
-    local_said_lem _ k s (at 0) (at 1) (at 2) (at 3) (at 4) (at 5) (residual_said words k s.residual f (at 6) (at 7)) (at 8) (unmatched_said words k s.unmatched (at 9) (at 10))
+    at : (m : ℕ) → word_at (before ++ (outcome_words r (PassStats.Fill s) ++ after)) k m ≡ get_or (outcome_words r (PassStats.Fill s) ++ after) m 0
+    at m = there before (outcome_words r (PassStats.Fill s) ++ after) k m e
+decode_encode before after k r (PassStats.Local s) e f =
+    role_said words k r (PassStats.Local s) (at 11)
+    (local_said_lem _ k s (at 0) (at 1) (at 2) (at 3) (at 4) (at 5) (residual_said words k s.residual f (at 6) (at 7)) (at 8) (unmatched_said words k s.unmatched (at 9) (at 10)))
   where
     words : List ℕ
-    words = before ++ (outcome_words (PassStats.Local s) ++ after)
+    words = before ++ (outcome_words r (PassStats.Local s) ++ after)
 
     listed : List ℕ
     listed =
         2 ∷ s.counts.attached ∷ s.counts.rejected_no_candidate ∷ s.counts.rejected_ambiguous ∷ s.counts.rejected_edge ∷ s.iterations
-        ∷ flag_of s.residual ∷ bits_of s.residual ∷ bit_of s.rim ∷ shade_flag s.unmatched ∷ unmatched_word s.unmatched ∷ []
+        ∷ flag_of s.residual ∷ bits_of s.residual ∷ bit_of s.rim ∷ shade_flag s.unmatched ∷ unmatched_word s.unmatched ∷ role_number r ∷ []
 
     at : (m : ℕ) → word_at words k m ≡ get_or (listed ++ after) m 0
-    at m = there before (outcome_words (PassStats.Local s) ++ after) k m e ∙ ap (λ (l : List ℕ). get_or (l ++ after) m 0) (local_listed s)
+    at m = there before (outcome_words r (PassStats.Local s) ++ after) k m e ∙ ap (λ (l : List ℕ). get_or (l ++ after) m 0) (local_listed r s)
 
 -- ---- a residual by its pattern
 
@@ -246,3 +264,18 @@ unmatched_few words k w n e = go (eqb (word_at words k 9) 0) refl e
         let some = eqb-false (word_at words k 9) 0 p in
         let same : word_at words k 10 ≡ n = cc in
         rw (← same) (w.unmatched (omega arith))
+
+-- ---- what a pass adds to the counts of a role, by its kind
+
+module _ (words : List ℕ) (k : ℕ) where
+  pub added_alone : word_at words k 0 ≡ 1 → attached_alone (word_at words k 1) ≡ counts_of (stats_at words k)
+  unfolding stats_at counts_of
+  added_alone e = rw e refl
+
+  pub all_four : (word_at words k 0 ≡ 1 → ⊥) → four_of (counts_at words k) ≡ counts_of (stats_at words k)
+  unfolding stats_at counts_of
+  all_four f = rw (ne_eqb (word_at words k 0) 1 f) (go (eqb (word_at words k 0) 0))
+    where
+      go : (t : Bool) → four_of (counts_at words k) ≡ counts_of (cond t (PassStats.Grow (grow_at words k)) (PassStats.Local (local_at words k)))
+      go true = refl
+      go false = refl

@@ -9,6 +9,9 @@ use Rattle.passes.specs.declared.FillStats.{FillStats}
 use Rattle.passes.specs.declared.LocalStats.{LocalStats}
 use Rattle.passes.specs.declared.PassStats.{PassStats}
 use Rattle.passes.specs.Outcome.{Answer}
+use Rattle.roles.specs.declared.Role.{Role}
+use Rattle.role_counts.specs.RoleCounts.{AtMost}
+use Rattle.role_counts.specs.declared.RoleCounts.{RoleCounts}
 use Rattle.sizes.specs.Sizes.{outcome_size}
 use Rattle.report_words.specs.Outcomes.{outcome_words, word_at, counts_at, yes_at, residual_at, unmatched_at, largest_count, largest_unmatched}
 
@@ -25,7 +28,7 @@ abbrev pub local_at : List ℕ → ℕ → LocalStats
 local_at words k =
     record { counts = counts_at words k; iterations = word_at words k 5; residual = residual_at words k; rim = yes_at words k 8; unmatched = unmatched_at words k }
 
--- the eleven words of outcome k are there
+-- the twelve words of outcome k are there
 pub record HasOutcome (words : List ℕ) (k : ℕ) : Type 0 where
   pub there : outcome_size * k + outcome_size ≤ length words
 
@@ -44,6 +47,7 @@ pub record Tame (words : List ℕ) (k : ℕ) : Type 0 where
   pub unmatched : word_at words k 9 ≡ 1 → word_at words k 10 ≤ largest_unmatched
   pub unshaded : word_at words k 9 ≡ 0 → word_at words k 10 ≡ 0
   pub local_alone : word_at words k 9 ≡ 1 → word_at words k 0 ≡ 2
+  pub role : word_at words k 11 ≤ 2
 
 pub record TameOutcome (words : List ℕ) (k : ℕ) : Type 0 where
   pub has : HasOutcome words k
@@ -51,12 +55,12 @@ pub record TameOutcome (words : List ℕ) (k : ℕ) : Type 0 where
 
 -- ---- an outcome put at its place
 
--- the words with eleven put at the place of outcome k, the others as they were; and with an outcome
+-- the words with twelve put at the place of outcome k, the others as they were; and with an outcome
 abbrev pub put : List ℕ → ℕ → List ℕ → List ℕ
-put words k eleven = take (outcome_size * k) words ++ (eleven ++ drop (outcome_size * k + outcome_size) words)
+put words k twelve = take (outcome_size * k) words ++ (twelve ++ drop (outcome_size * k + outcome_size) words)
 
-abbrev pub with_outcome : List ℕ → ℕ → PassStats → List ℕ
-with_outcome words k s = put words k (outcome_words s)
+abbrev pub with_outcome : List ℕ → ℕ → Role → PassStats → List ℕ
+with_outcome words k r s = put words k (outcome_words r s)
 
 -- the two words of a residual
 abbrev pub flag_of : Option Float → ℕ
@@ -90,6 +94,10 @@ pub record FillFits (s : FillStats) : Type 0 where
   pub added : FitsWord s.added
   pub rounds : FitsWord s.iterations
 
+-- counts that are words
+abbrev pub SumsFit : RoleCounts → Type 0
+SumsFit c = AtMost 4294967295 c
+
 abbrev pub UnmatchedFits : Option ℕ → Type 0
 UnmatchedFits None = Unit {0}
 UnmatchedFits (Some n) = FitsWord n
@@ -106,10 +114,10 @@ AnswerFits (Ok (PassStats.Fill s)) = FillFits s
 AnswerFits (Ok (PassStats.Local s)) = LocalFits s
 AnswerFits (Err r) = Unit {0}
 
--- the words with the outcome of an answer; a refused call has none
-abbrev pub with_answer : List ℕ → ℕ → Answer PassStats → List ℕ
-with_answer words k (Ok s) = with_outcome words k s
-with_answer words k (Err r) = words
+-- the words with the outcome of an answer to a role; a refused call has none
+abbrev pub with_answer : List ℕ → ℕ → Role → Answer PassStats → List ℕ
+with_answer words k r (Ok s) = with_outcome words k r s
+with_answer words k r (Err e) = words
 
 -- a residual, if there is one, is a value of binary32
 abbrev pub FloatOrNone : Option Float → Type 0

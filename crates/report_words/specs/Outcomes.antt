@@ -6,27 +6,31 @@ use Rattle.binary32.specs.Ranges.{is_finite}
 use Rattle.sheet.specs.Words.{bit_of}
 use Rattle.passes.specs.declared.Counts.{Counts}
 use Rattle.passes.specs.declared.PassStats.{PassStats}
+use Rattle.roles.specs.Roles.{role_number, role_numbered}
+use Rattle.roles.specs.declared.Role.{Role}
+use Rattle.role_counts.specs.RoleCounts.{RoledStats}
 use Rattle.sizes.specs.Sizes.{outcome_size}
 
--- ---- an outcome as eleven words: kind (0 grow, 1 fill, 2 local), attached or added, no candidate, ambiguous, edge, rounds, 1 if there is a residual
--- and else 0, its bits, 1 for rim yes and 0 for no, 1 if any shade stands and else 0, unmatched; 0 for what the pass has not
+-- ---- an outcome as twelve words: kind (0 grow, 1 fill, 2 local), attached or added, no candidate, ambiguous, edge, rounds, 1 if there is a residual
+-- and else 0, its bits, 1 for rim yes and 0 for no, 1 if any shade stands and else 0, unmatched, the role that ran the pass (0 plant, 1 depot, 2
+-- dealer); 0 for what the pass has not
 
 abbrev pub residual_words : Option Float → List ℕ → List ℕ
 residual_words None rest = 0 ∷ 0 ∷ rest
 residual_words (Some x) rest = 1 ∷ to_bits binary32 x ∷ rest
 
-abbrev pub unmatched_words : Option ℕ → List ℕ
-unmatched_words None = 0 ∷ 0 ∷ []
-unmatched_words (Some n) = 1 ∷ n ∷ []
+abbrev pub unmatched_words : Option ℕ → List ℕ → List ℕ
+unmatched_words None rest = 0 ∷ 0 ∷ rest
+unmatched_words (Some n) rest = 1 ∷ n ∷ rest
 
-unfoldable pub outcome_words : PassStats → List ℕ
-outcome_words (PassStats.Grow s) =
+unfoldable pub outcome_words : Role → PassStats → List ℕ
+outcome_words r (PassStats.Grow s) =
     0 ∷ s.counts.attached ∷ s.counts.rejected_no_candidate ∷ s.counts.rejected_ambiguous ∷ s.counts.rejected_edge ∷ 0 ∷ 0 ∷ 0 ∷ bit_of s.rim
-    ∷ 0 ∷ 0 ∷ []
-outcome_words (PassStats.Fill s) = 1 ∷ s.added ∷ 0 ∷ 0 ∷ 0 ∷ s.iterations ∷ 0 ∷ 0 ∷ bit_of s.rim ∷ 0 ∷ 0 ∷ []
-outcome_words (PassStats.Local s) =
+    ∷ 0 ∷ 0 ∷ role_number r ∷ []
+outcome_words r (PassStats.Fill s) = 1 ∷ s.added ∷ 0 ∷ 0 ∷ 0 ∷ s.iterations ∷ 0 ∷ 0 ∷ bit_of s.rim ∷ 0 ∷ 0 ∷ role_number r ∷ []
+outcome_words r (PassStats.Local s) =
     2 ∷ s.counts.attached ∷ s.counts.rejected_no_candidate ∷ s.counts.rejected_ambiguous ∷ s.counts.rejected_edge ∷ s.iterations
-    ∷ residual_words s.residual (bit_of s.rim ∷ unmatched_words s.unmatched)
+    ∷ residual_words s.residual (bit_of s.rim ∷ unmatched_words s.unmatched (role_number r ∷ []))
 
 -- word m of outcome k
 abbrev pub word_at : List ℕ → ℕ → ℕ → ℕ
@@ -45,7 +49,10 @@ residual_at words k = cond (yes_at words k 6) (Some (of_bits binary32 (word_at w
 abbrev pub unmatched_at : List ℕ → ℕ → Option ℕ
 unmatched_at words k = cond (yes_at words k 9) (Some (word_at words k 10)) None
 
--- what outcome k says
+abbrev pub role_at : List ℕ → ℕ → Role
+role_at words k = role_numbered (word_at words k 11)
+
+-- what outcome k says of its pass
 unfoldable pub stats_at : List ℕ → ℕ → PassStats
 stats_at words k =
     cond (eqb (word_at words k 0) 0) (PassStats.Grow (record { counts = counts_at words k; rim = yes_at words k 8 }))
@@ -53,18 +60,22 @@ stats_at words k =
     (PassStats.Local
     (record { counts = counts_at words k; iterations = word_at words k 5; residual = residual_at words k; rim = yes_at words k 8; unmatched = unmatched_at words k })))
 
--- the outcomes from number k on, n of them
-unfoldable pub stats_from : List ℕ → ℕ → ℕ → List PassStats
-stats_from words k zero = []
-stats_from words k (suc n) = stats_at words k ∷ stats_from words (suc k) n
+-- and who ran it
+abbrev pub outcome_at : List ℕ → ℕ → RoledStats
+outcome_at words k = record { role = role_at words k; stats = stats_at words k }
 
-abbrev pub stats_in : ℕ → List ℕ → List PassStats
-stats_in passes words = stats_from words 0 passes
+-- the outcomes from number k on, n of them
+unfoldable pub outcomes_from : List ℕ → ℕ → ℕ → List RoledStats
+outcomes_from words k zero = []
+outcomes_from words k (suc n) = outcome_at words k ∷ outcomes_from words (suc k) n
+
+abbrev pub outcomes_in : ℕ → List ℕ → List RoledStats
+outcomes_in passes words = outcomes_from words 0 passes
 
 -- ---- an outcome that is none
 
 -- no count is above 64 rounds of 16,384 cells, no number of rounds above 64, unmatched not above 64 rounds of 16,384 cells of 1,024 corners, and a
--- residual is finite; kind, residual flag and rim are those that an outcome has
+-- residual is finite; kind, residual flag, rim and role are those that an outcome has
 abbrev pub largest_count : ℕ
 largest_count = 1048576
 
@@ -87,4 +98,4 @@ wild_unmatched words k =
 unfoldable pub wild_outcome : List ℕ → ℕ → Bool
 wild_outcome words k =
     ltb 2 (word_at words k 0)
-    || (wild_counts words k || (ltb 64 (word_at words k 5) || (wild_residual words k || (ltb 1 (word_at words k 8) || wild_unmatched words k))))
+    || (wild_counts words k || (ltb 64 (word_at words k 5) || (wild_residual words k || (ltb 1 (word_at words k 8) || (wild_unmatched words k || ltb 2 (word_at words k 11))))))

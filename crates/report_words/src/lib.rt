@@ -1,4 +1,4 @@
-// The outcomes of passes as words, eleven for each (specs/Outcomes.antt).
+// The outcomes of passes as words, twelve for each (specs/Outcomes.antt).
 
 #![tactic(auto)]
 

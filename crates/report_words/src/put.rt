@@ -8,6 +8,7 @@ ghost use Rattle.report_words.specs.Asked.{CountsFit, FillFits, UnmatchedFits, L
 
 use passes::{FillStats, GrowStats, LocalStats, PassStats};
 use refusal::Refusal;
+use roles::Role;
 use sizes::OUTCOME_WORDS;
 use std::num::f32_to_bits_with_nan;
 
@@ -33,7 +34,7 @@ fn unmatched_word(u: Option<usize>) -> u32
     u.unwrap_or(0) as u32
 }
 
-// Puts eleven words at the place of outcome k.
+// Puts twelve words at the place of outcome k.
 fn put_words(words: &mut [u32], k: usize, outcome: [u32; OUTCOME_WORDS])
     requires { HasOutcome words.old k }
     ensures { words.new ≡ put words.old k outcome }
@@ -42,12 +43,12 @@ fn put_words(words: &mut [u32], k: usize, outcome: [u32; OUTCOME_WORDS])
     words[first..first + OUTCOME_WORDS].copy_from_slice(&outcome);
 }
 
-// The eleven words of an outcome of grow.
+// The twelve words of an outcome of grow.
 // Stays: kind, flags and counts are words, as the C interface lends them (a).
 #[tactic(auto, unfolding(crate::specs::Outcomes::outcome_words))]
-fn grow_words(s: GrowStats) -> [u32; OUTCOME_WORDS]
+fn grow_words(role: Role, s: GrowStats) -> [u32; OUTCOME_WORDS]
     requires { CountsFit s.counts }
-    ensures { result ≡ outcome_words (PassStats.Grow s) }
+    ensures { result ≡ outcome_words role (PassStats.Grow s) }
 {
     let c = s.counts;
     [
@@ -62,15 +63,16 @@ fn grow_words(s: GrowStats) -> [u32; OUTCOME_WORDS]
         bit(s.rim),
         0,
         0,
+        roles::number(role),
     ]
 }
 
-// The eleven words of an outcome of fill.
+// The twelve words of an outcome of fill.
 // Stays: kind, flags and counts are words, as the C interface lends them (a).
 #[tactic(auto, unfolding(crate::specs::Outcomes::outcome_words))]
-fn fill_words(s: FillStats) -> [u32; OUTCOME_WORDS]
+fn fill_words(role: Role, s: FillStats) -> [u32; OUTCOME_WORDS]
     requires { FillFits s }
-    ensures { result ≡ outcome_words (PassStats.Fill s) }
+    ensures { result ≡ outcome_words role (PassStats.Fill s) }
 {
     [
         1u32,
@@ -84,15 +86,16 @@ fn fill_words(s: FillStats) -> [u32; OUTCOME_WORDS]
         bit(s.rim),
         0,
         0,
+        roles::number(role),
     ]
 }
 
-// The eleven words of an outcome of local.
+// The twelve words of an outcome of local.
 // Stays: kind, flags and counts are words, as the C interface lends them (a).
 #[tactic(auto, unfolding(crate::specs::Outcomes::outcome_words))]
-fn local_words(s: LocalStats) -> [u32; OUTCOME_WORDS]
+fn local_words(role: Role, s: LocalStats) -> [u32; OUTCOME_WORDS]
     requires { LocalFits s }
-    ensures { result ≡ outcome_words (PassStats.Local s) }
+    ensures { result ≡ outcome_words role (PassStats.Local s) }
 {
     let c = s.counts;
     [
@@ -107,19 +110,20 @@ fn local_words(s: LocalStats) -> [u32; OUTCOME_WORDS]
         bit(s.rim),
         bit(s.unmatched.is_some()),
         unmatched_word(s.unmatched),
+        roles::number(role),
     ]
 }
 
-// Puts the outcome that a pass answers at place k; the other words stay. A refused call has no outcome, and all words stay.
-pub fn put_outcome(words: &mut [u32], k: usize, answer: Result<PassStats, Refusal>)
+// Puts the outcome that a pass answers to a role at place k; the other words stay. A refused call has no outcome, and all words stay.
+pub fn put_outcome(words: &mut [u32], k: usize, role: Role, answer: Result<PassStats, Refusal>)
     requires has_outcome { HasOutcome words.old k }
     requires answer_fits { AnswerFits answer }
-    ensures { words.new ≡ with_answer words.old k answer }
+    ensures { words.new ≡ with_answer words.old k role answer }
 {
     match answer {
-        Ok(PassStats::Grow(s)) => put_words(words, k, grow_words(s)),
-        Ok(PassStats::Fill(s)) => put_words(words, k, fill_words(s)),
-        Ok(PassStats::Local(s)) => put_words(words, k, local_words(s)),
+        Ok(PassStats::Grow(s)) => put_words(words, k, grow_words(role, s)),
+        Ok(PassStats::Fill(s)) => put_words(words, k, fill_words(role, s)),
+        Ok(PassStats::Local(s)) => put_words(words, k, local_words(role, s)),
         Err(_) => {}
     }
 }

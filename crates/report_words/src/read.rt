@@ -1,13 +1,16 @@
 // Outcomes read from their words.
 ghost use Rattle.std.specs.Prelude.{◌≡◌, ◌<◌};
 ghost use Rattle.sizes.specs.Sizes.{outcome_size};
-ghost use Rattle.report_words.specs.Outcomes.{word_at, counts_at, yes_at, residual_at, unmatched_at, stats_at};
-ghost use Rattle.report_words.specs.Asked.{HasOutcome, Tame, FitsWord, CountsFit, FillFits, UnmatchedFits, grow_at, fill_at, local_at};
+ghost use Rattle.role_counts.specs.RoleCounts.{counts_of};
+ghost use Rattle.report_words.specs.Outcomes.{word_at, counts_at, yes_at, residual_at, unmatched_at, role_at, stats_at};
+ghost use Rattle.report_words.specs.Asked.{HasOutcome, Tame, FitsWord, CountsFit, FillFits, SumsFit, UnmatchedFits, grow_at, fill_at, local_at};
 
 use passes::{Counts, FillStats, GrowStats, LocalStats, PassStats};
+use role_counts::RoleCounts;
+use roles::Role;
 use sizes::OUTCOME_WORDS;
 
-// Outcome k among the words of outcomes, whose eleven are there.
+// Outcome k among the words of outcomes, whose twelve are there.
 // Stays: the words are those of the C interface: the kind is a number, and a flag stands beside its value (a).
 #[derive(Clone, Copy)]
 pub struct Outcome<'a> {
@@ -121,6 +124,26 @@ impl Outcome<'_> {
             0 => PassStats::Grow(self.grow_at()),
             1 => PassStats::Fill(self.fill_at()),
             _ => PassStats::Local(self.local_at()),
+        }
+    }
+
+    // Who ran its pass.
+    pub fn role_at(&self) -> Role
+        ensures { result ≡ role_at self.now.words.now self.now.k }
+    {
+        roles::numbered(self.word_at(11))
+    }
+
+    // What its pass adds to the counts of a role, whatever its other words are.
+    // Stays: the kind is a word of the C interface (a).
+    #[tactic(auto, unfolding(crate::specs::Outcomes::stats_at))]
+    pub fn role_counts_at(&self) -> RoleCounts
+        ensures value { result ≡ counts_of (stats_at self.now.words.now self.now.k) }
+        ensures fits { SumsFit result }
+    {
+        match self.word_at(0) {
+            1 => RoleCounts::attached_alone(self.count_at(1)),
+            _ => RoleCounts::four_of(self.counts_at()),
         }
     }
 }

@@ -54,5 +54,6 @@ impl Outcome<'_> {
             || self.wild_residual()
             || 1 < self.word_at(8)
             || self.wild_unmatched()
+            || 2 < self.word_at(11)
     }
 }

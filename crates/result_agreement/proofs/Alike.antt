@@ -12,22 +12,25 @@ use Rattle.sheet.specs.Pairing.{Shuffle, paired_label, PairedSheets}
 use Rattle.passes.specs.Outcome.{Outcome}
 use Rattle.passes.specs.Run.{Call, step, sheet_after, run, sheet_of as sheetAfterAll}
 use Rattle.passes.specs.declared.PassStats.{PassStats}
+use Rattle.role_counts.specs.RoleCounts.{RoledStats}
 use Rattle.agreement.specs.Agreement.{both_refused, both_done, Agree, agree_end, agree_call}
-use Rattle.frame.specs.Frame.{Frame, read_frame, accepted}
+use Rattle.frame.specs.Frame.{Frame, RoledPass, parts_of, read_frame, accepted}
 use Rattle.frame.specs.ReadFrame.{sheet_of}
 use Rattle.frame_laws.specs.Calls.{frame_corners, calls_of}
 use Rattle.frame_agreement.proofs.Reordering.{frames_run_alike}
-use Rattle.report_line.specs.Result.{pass_lines, label_line, cell_line, hole_line, ambiguous_line, lines_from, all_places, heading, result_text}
-use Rattle.frame_answer.specs.Answer.{stats_of, frame_stats, frame_sheet, answer_of, answer_text}
+use Rattle.report_line.specs.Result.{pass_lines, role_lines, label_line, cell_line, hole_line, ambiguous_line, lines_from, all_places, heading, sheet_text, result_text}
+use Rattle.frame_answer.specs.Answer.{outcomes_of, frame_outcomes, frame_sheet, answer_of, answer_text}
 use Rattle.result_agreement.specs.Alike.{numbered_anew, cell_line_anew, renumbered_text, KeptNumbers, numbers, FramesAnswerAlike}
 
 -- ---- the runs
 
-agree_stats : {n : ℕ} {s : Shuffle n} {sheet sheet' : List ℕ} {os os' : List (Outcome PassStats)} → Agree s sheet sheet' os os' → stats_of os' ≡ stats_of os
-unfolding stats_of
-agree_stats (agree_end p) = refl
-agree_stats (agree_call p (both_refused r) rest) = agree_stats rest
-agree_stats (agree_call p (both_done same) rest) = λ t. same.answer t ∷ agree_stats rest t
+agree_outcomes : {n : ℕ} {s : Shuffle n} (ps : List RoledPass) {sheet sheet' : List ℕ} {os os' : List (Outcome PassStats)} → Agree s sheet sheet' os os'
+    → outcomes_of ps os' ≡ outcomes_of ps os
+unfolding outcomes_of
+agree_outcomes [] a = refl
+agree_outcomes (p ∷ ps) (agree_end b) = refl
+agree_outcomes (p ∷ ps) (agree_call b (both_refused r) rest) = agree_outcomes ps rest
+agree_outcomes (p ∷ ps) (agree_call b (both_done same) rest) = λ t. record { role = p.role; stats = same.answer t } ∷ agree_outcomes ps rest t
 
 module _ {n : ℕ} (s : Shuffle n) (l l' : CornerLists) where
   agree_sheets : (calls calls' : List Call) (sheet sheet' : List ℕ) → Agree s sheet sheet' (run l sheet calls) (run l' sheet' calls')
@@ -66,9 +69,9 @@ unfolding cell_line_anew cell_line
 cell_kept sheet p = ap (label_line (cell_of p)) (kept (label_of (get_or sheet p 0)))
 
 pub kept_numbers : KeptNumbers
-unfolding renumbered_text result_text
-kept_numbers stats sheet =
-    ap (λ (cells : List ℕ). heading ++ (pass_lines stats ++ (cells ++ (all_places (hole_line sheet) ++ all_places (ambiguous_line sheet)))))
+unfolding renumbered_text result_text sheet_text
+kept_numbers outcomes sheet =
+    ap (λ (cells : List ℕ). heading ++ (pass_lines outcomes ++ (role_lines outcomes ++ (cells ++ (all_places (hole_line sheet) ++ all_places (ambiguous_line sheet))))))
     (same_places (cell_line sheet) (cell_line_anew (λ k. k) sheet) (λ p h. cell_kept sheet p))
 
 -- ---- two sheets
@@ -89,38 +92,40 @@ module _ {n : ℕ} (s : Shuffle n) (to : ℕ → ℕ) (e : (k : ℕ) → s.to k 
   unfolding ambiguous_line
   ambiguous_same p h = rw (both.ambiguous p h) refl
 
-  text_anew : (stats : List PassStats) → result_text stats sheet' ≡ renumbered_text to stats sheet
-  unfolding result_text renumbered_text
-  text_anew stats =
+  text_anew : (outcomes : List RoledStats) → result_text outcomes sheet' ≡ renumbered_text to outcomes sheet
+  unfolding result_text sheet_text renumbered_text
+  text_anew outcomes =
       let cells = same_places (cell_line_anew to sheet) (cell_line sheet') cells_anew in
       let holes = same_places (hole_line sheet) (hole_line sheet') holes_same in
       let unclear = same_places (ambiguous_line sheet) (ambiguous_line sheet') ambiguous_same in
-      λ t. heading ++ (pass_lines stats ++ (cells t ++ (holes t ++ unclear t)))
+      λ t. heading ++ (pass_lines outcomes ++ (role_lines outcomes ++ (cells t ++ (holes t ++ unclear t))))
 
 -- ---- the claim
 
-answer_of_lem : (text : List ℕ) (f : Frame) → read_frame text ≡ accepted f → answer_text text ≡ result_text (frame_stats f) (frame_sheet f)
+answer_of_lem : (text : List ℕ) (f : Frame) → read_frame text ≡ accepted f → answer_text text ≡ result_text (frame_outcomes f) (frame_sheet f)
 unfolding answer_text answer_of
 answer_of_lem text f e = ap answer_of e
 
 pub frames_answer_alike : FramesAnswerAlike
-unfolding frame_stats frame_sheet
+unfolding frame_outcomes frame_sheet
 frames_answer_alike text text' f f' e e' same above =
     let alike = frames_run_alike text text' f f' e e' same in
     let s = alike.reordered.corners.pairs in
     let agree = alike.own_list above in
-    let stats : frame_stats f' ≡ frame_stats f = agree_stats agree in
+    let outcomes : frame_outcomes f' ≡ frame_outcomes f =
+    ap (λ (ps : List RoledPass). outcomes_of ps (run (frame_corners f') (sheet_of f') (calls_of f'))) same.passes ∙ agree_outcomes (parts_of f).passes agree in
     let both : PairedSheets s (frame_sheet f) (frame_sheet f') =
     agree_sheets s (frame_corners f) (frame_corners f') (calls_of f) (calls_of f') (sheet_of f) (sheet_of f') agree in
     let to = numbers same in
     let so = alike.paired_to in
     record {
-      stats = stats;
+      outcomes = outcomes;
+      roles = ap role_lines outcomes;
       labels = labels_anew s to so (frame_sheet f) (frame_sheet f') both;
       holes = holes_same s to so (frame_sheet f) (frame_sheet f') both;
       ambiguous = ambiguous_same s to so (frame_sheet f) (frame_sheet f') both;
       first_answer = answer_of_lem text f e;
       second_answer =
-          answer_of_lem text' f' e' ∙ ap (λ (ss : List PassStats). result_text ss (frame_sheet f')) stats
-          ∙ text_anew s to so (frame_sheet f) (frame_sheet f') both (frame_stats f);
+          answer_of_lem text' f' e' ∙ ap (λ (ss : List RoledStats). result_text ss (frame_sheet f')) outcomes
+          ∙ text_anew s to so (frame_sheet f) (frame_sheet f') both (frame_outcomes f);
     }

@@ -20,7 +20,7 @@ abbrev pub pass_size : ℕ
 pass_size = 7
 
 abbrev pub outcome_size : ℕ
-outcome_size = 11
+outcome_size = 12
 
 -- and of as many passes and outcomes as a frame can have
 abbrev pub all_pass_words : ℕ

@@ -15,7 +15,7 @@ pub const PASSES: usize = 16;
 // Words of a pass as the reader writes it, and of an outcome.
 pub const PASS_WORDS: usize = 7;
 
-pub const OUTCOME_WORDS: usize = 11;
+pub const OUTCOME_WORDS: usize = 12;
 
 // Words of as many passes and of as many outcomes as a frame can have.
 pub const ALL_PASS_WORDS: usize = PASSES * PASS_WORDS;

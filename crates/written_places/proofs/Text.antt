@@ -2,8 +2,8 @@
 use mathlib.Core.Path.{◌≡◌, refl}
 use mathlib.Core.List.{List, ◌++◌}
 use Rattle.sheet.specs.Words.{label_of, label_of_number, hole_of, ambiguous_of}
-use Rattle.passes.specs.declared.PassStats.{PassStats}
-use Rattle.report_line.specs.Result.{pass_lines, cell_line, hole_line, ambiguous_line, all_places, heading, result_text}
+use Rattle.role_counts.specs.RoleCounts.{RoledStats}
+use Rattle.report_line.specs.Result.{pass_lines, role_lines, cell_line, hole_line, ambiguous_line, all_places, heading, sheet_text, result_text}
 use Rattle.written_places.specs.Written.{Written, Rise, sheet_with, told}
 use Rattle.written_places.specs.Text.{cell_says, hole_says, ambiguous_says, text_in}
 use Rattle.written_places.proofs.Written.{all_told}
@@ -21,6 +21,6 @@ module _ (w : List Written) (r : Rise 0 w) where
   unfolding ambiguous_line ambiguous_of
   ambiguous_so = all_told ambiguous_says (λ p. refl) w r
 
-  pub text_so : (stats : List PassStats) → result_text stats (sheet_with w) ≡ text_in stats w
-  unfolding result_text text_in
-  text_so stats = λ t. heading ++ (pass_lines stats ++ (cells_so t ++ (holes_so t ++ ambiguous_so t)))
+  pub text_so : (outcomes : List RoledStats) → result_text outcomes (sheet_with w) ≡ text_in outcomes w
+  unfolding result_text sheet_text text_in
+  text_so outcomes = λ t. heading ++ (pass_lines outcomes ++ (role_lines outcomes ++ (cells_so t ++ (holes_so t ++ ambiguous_so t))))

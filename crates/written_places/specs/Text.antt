@@ -3,8 +3,8 @@ use Rattle.std.specs.Prelude.{cond, List, [], ◌++◌, ℕ}
 use Rattle.sheet.specs.Cells.{cell_of}
 use Rattle.sheet.specs.Words.{label_of, hole_of, ambiguous_of}
 use Rattle.line_form.specs.Forms.{bytes, printed}
-use Rattle.passes.specs.declared.PassStats.{PassStats}
-use Rattle.report_line.specs.Result.{cell_numbers, label_line, pass_lines, heading}
+use Rattle.role_counts.specs.RoleCounts.{RoledStats}
+use Rattle.report_line.specs.Result.{cell_numbers, label_line, pass_lines, role_lines, heading}
 use Rattle.written_places.specs.Written.{Written, told}
 
 -- what a place says whose word is given
@@ -17,5 +17,5 @@ hole_says p v = cond (hole_of v) (printed (bytes "(hole (# #))\n") (cell_numbers
 abbrev pub ambiguous_says : ℕ → ℕ → List ℕ
 ambiguous_says p v = cond (ambiguous_of v) (printed (bytes "(ambiguous (# #))\n") (cell_numbers (cell_of p) [])) []
 
-unfoldable pub text_in : List PassStats → List Written → List ℕ
-text_in stats w = heading ++ (pass_lines stats ++ (told cell_says w ++ (told hole_says w ++ told ambiguous_says w)))
+unfoldable pub text_in : List RoledStats → List Written → List ℕ
+text_in outcomes w = heading ++ (pass_lines outcomes ++ (role_lines outcomes ++ (told cell_says w ++ (told hole_says w ++ told ambiguous_says w))))

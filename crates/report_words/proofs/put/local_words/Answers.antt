@@ -22,4 +22,4 @@ pub returns : goal.returns
 returns c =
     let residual : c.bit.result ≡ flag_of c.args.s.residual = c.bit.ensures ∙ ap bit_of c.is_some.ensures ∙ flagged c.args.s.residual in
     let shade : c.bit-3.result ≡ shade_flag c.args.s.unmatched = c.bit-3.ensures ∙ ap bit_of c.is_some-2.ensures ∙ shaded c.args.s.unmatched in
-    rw (residual, c.residual_bits.ensures, c.bit-2.ensures, shade, c.unmatched_word.ensures) (sym (local_listed c.args.s))
+    rw (residual, c.residual_bits.ensures, c.bit-2.ensures, shade, c.unmatched_word.ensures, c.number.ensures) (sym (local_listed c.args.role c.args.s))

@@ -2,7 +2,7 @@
 use Rattle.report_line.proofs.Forms.{same_room, same_wrote}
 use Rattle.report.specs.Asked.{line_at}
 use Rattle.report.proofs.Numbered.{pass_line_holds, sheet_line_lem}
-use Rattle.report.proofs.Writing.{heading_is, pass_asked, sheet_asked}
+use Rattle.report.proofs.Writing.{heading_is, role_is, pass_asked, role_asked, sheet_asked}
 use Rattle.report.proofs.lines.Source.write_line.Goals as goal
 
 pub write_heading-requires : goal.write_heading-requires
@@ -16,6 +16,17 @@ write_pass-requires c = pass_asked c.args.self.now.passes c.args.self.now.words.
 
 pub returns-in-Pass : goal.returns-in-Pass
 returns-in-Pass c = same_wrote _ (line_at c.args.self.now.passes c.args.self.now.words.now c.args.self.now.sheet.now c.args.k) _ _ _ (pass_line_holds c.args.self.now.passes c.args.self.now.words.now c.args.self.now.sheet.now c.args.k c.in-Pass.k c.in-Pass.ensures.0 c.in-Pass.ensures.1) c.write_pass.ensures
+
+pub write_role-requires : goal.write_role-requires
+write_role-requires c =
+    role_asked c.args.self.now.passes c.args.self.now.words.now c.args.self.now.sheet.now c.args.k c.args.out.now c.requires c.in-OfRole.ensures.0 c.in-OfRole.role c.in-OfRole.ensures.1 c.in-OfRole.ensures.2 c.in-OfRole.ensures.3
+    c.sum_for.result c.sum_for.ensures.value
+
+pub returns-in-OfRole : goal.returns-in-OfRole
+returns-in-OfRole c =
+    same_wrote _ (line_at c.args.self.now.passes c.args.self.now.words.now c.args.self.now.sheet.now c.args.k) _ _ _
+    (role_is c.args.self.now.passes c.args.self.now.words.now c.args.self.now.sheet.now c.args.k c.in-OfRole.ensures.0 c.in-OfRole.role c.in-OfRole.ensures.1 c.in-OfRole.ensures.2 c.in-OfRole.ensures.3
+    c.sum_for.result c.sum_for.ensures.value) c.write_role.ensures
 
 pub write_sheet_line-requires : goal.write_sheet_line-requires
 write_sheet_line-requires c = sheet_asked c.args.self.now.passes c.args.self.now.words.now c.args.self.now.sheet.now c.args.k c.args.out.now c.requires c.in-OfSheet.k c.in-OfSheet.ensures

@@ -1,0 +1,3 @@
+-- The laws of counts for each role. Assumes nothing.
+pub mod Sums
+pub mod Together

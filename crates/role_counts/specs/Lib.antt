@@ -1,0 +1,2 @@
+-- Counts for each role. Definitions only.
+pub mod RoleCounts
