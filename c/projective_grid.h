@@ -61,15 +61,17 @@ enum {
     PROJECTIVE_GRID_QUEUE_PER_CORNER = 4,
     PROJECTIVE_GRID_ATTACHED_PER_CORNER = 1,
     PROJECTIVE_GRID_PASS_WORDS = 7,
-    PROJECTIVE_GRID_OUTCOME_WORDS = 11,
+    PROJECTIVE_GRID_OUTCOME_WORDS = 12,
     PROJECTIVE_GRID_SETTINGS = 6,
     PROJECTIVE_GRID_READ_OUT = 2,
     PROJECTIVE_GRID_WRITE_OUT = 1,
     PROJECTIVE_GRID_PIECE_OUT = 2,
     /* a piece needs room for any one line */
     PROJECTIVE_GRID_LINE_BYTES = 128,
-    /* no result's text is longer: 16 + 49,153 lines of at most 127 bytes */
-    PROJECTIVE_GRID_LONGEST_TEXT = 6244463
+    /* the lines of a result's text besides one for each pass: the first line, three of roles, three for each cell */
+    PROJECTIVE_GRID_LINES = 49156,
+    /* no result's text is longer: 16 + 49,156 lines of at most 127 bytes */
+    PROJECTIVE_GRID_LONGEST_TEXT = 6244844
 };
 
 /* THE SHEET: 128 by 128 cells, i and j from -64 to 63; the cell (i, j) has the place (i + 64) * 128 + (j + 64). A place
@@ -125,11 +127,14 @@ enum projective_grid_kind { PROJECTIVE_GRID_GROW = 0, PROJECTIVE_GRID_FILL = 1, 
  * bare (grow) and (fill), a depot any grow and fill, the plant all. The reader refuses with 10, at the line of the pass, a
  * frame with a pass that its role may not run: after 1, 2 and 3 of that line. A bare form whose numbers are written out is
  * not bare, although the words of the pass are the same.
- * The reader alone asks for the role. The calls of the three passes know none: they run what they are lent. */
+ * The reader alone refuses for a role. The calls of the three passes know none: they run what they are lent, and write the
+ * plant's into the outcome. Who runs a frame's passes puts the role of each over it, see the outcome. */
 enum projective_grid_role { PROJECTIVE_GRID_PLANT = 0, PROJECTIVE_GRID_DEPOT = 1, PROJECTIVE_GRID_DEALER = 2 };
 
-/* THE OUTCOME OF A PASS: eleven words; 0 for what the pass does not have. A pass writes them, and the writers read them:
- * lend pass k the words from 11 * k on, and the writers all of them. */
+/* THE OUTCOME OF A PASS: twelve words; 0 for what the pass does not have. A pass writes them, and the writers read them:
+ * lend pass k the words from 12 * k on, and the writers all of them.
+ * The last word is the role under which the writers count the pass (02, 7/14). A pass writes 0 there, the plant's. Who runs
+ * a frame puts word 6 of pass k, as the reader wrote it, over word 12 * k + 11 once the pass is done. */
 enum projective_grid_outcome {
     PROJECTIVE_GRID_OUTCOME_KIND = 0,
     PROJECTIVE_GRID_OUTCOME_ATTACHED = 1,  /* fill: added. So many places of the attached list are new */
@@ -141,7 +146,8 @@ enum projective_grid_outcome {
     PROJECTIVE_GRID_OUTCOME_RESIDUAL = 7,      /* the bits of the largest one */
     PROJECTIVE_GRID_OUTCOME_RIM = 8,           /* 1 for yes, 0 for no */
     PROJECTIVE_GRID_OUTCOME_SHADED = 9,        /* 1 if local was lent a shade, else 0 */
-    PROJECTIVE_GRID_OUTCOME_UNMATCHED = 10     /* local, lent a shade: the corners passed over for it, at every gathering */
+    PROJECTIVE_GRID_OUTCOME_UNMATCHED = 10,    /* local, lent a shade: the corners passed over for it, at every gathering */
+    PROJECTIVE_GRID_OUTCOME_ROLE = 11          /* who ran it: a role, see above; a pass writes 0 */
 };
 
 /* THE SETTINGS: six floats, as the reader writes them and in the order in which the passes take them. */
@@ -155,10 +161,10 @@ enum projective_grid_setting {
 };
 
 /* Grow. The corners are xs, ys, pitches and shades; their number n is xs_len. Needed: n places each of ys, pitches, shades
- * and attached, 4 * n of queue, 16,384 of sheet, 5 of around, 11 of out.
+ * and attached, 4 * n of queue, 16,384 of sheet, 5 of around, 12 of out.
  * Refused with 3 also where around does not hold the label box of sheet, see there.
  * Done: the sheet holds what grow left there, the front of around its label box, the front of queue the places of the
- * visited cells in order, the front of attached those of the new cells in order, the front of out grow's eleven words. */
+ * visited cells in order, the front of attached those of the new cells in order, the front of out grow's twelve words. */
 uint32_t projective_grid_extend_from_labelled(
     const float *xs, size_t xs_len,
     const float *ys, size_t ys_len,
@@ -221,11 +227,14 @@ uint32_t projective_grid_read_frame(
     float *settings, size_t settings_len,
     uint32_t *out, size_t out_len);
 
-/* Writes the whole text of a result. Needed: 11 * passes words, 16,384 places of sheet, the text's length of text, 1 of out.
+/* Writes the whole text of a result. Needed: 12 * passes words, 16,384 places of sheet, the text's length of text, 1 of out.
  * Done: the text stands at the front of text, and out[0] is its length in bytes. No NUL is written behind it.
- * 3 is for words that no pass writes: a kind above 2, a count above 1,048,576, rounds above 64, a flag or a rim above 1,
+ * Behind the passes' lines stand three lines, (role plant attached none ambiguous edge) and the same for depot and dealer:
+ * each the sum over the passes whose word 11 is that role, all 0 where there are none; fill adds to attached alone.
+ * 3 is for words that no outcome has: a kind above 2, a count above 1,048,576, rounds above 64, a flag or a rim above 1,
  * a residual that is not finite; unmatched above 1,073,741,824, or not 0 without a shade; a shade of a pass that is not
- * local. */
+ * local; a role above 2. The text's length, which 7 asks for first, is that of the words as they are; there a role above 2
+ * counts as the dealer's. */
 uint32_t projective_grid_write_result(
     size_t corners, size_t passes,
     const uint32_t *words, size_t words_len,
@@ -236,8 +245,8 @@ uint32_t projective_grid_write_result(
 /* Writes a piece of it: whole lines from line `from` on, as long as 128 bytes are left before each. Needed: as above, but
  * 128 of text and 2 of out.
  * Done: the piece stands at the front of text, out[0] is its length in bytes and out[1] the next line. There are
- * passes + 49,153 lines, most of them empty; local's line and its unmatched line are one. Pieces from line 0 on until that
- * number is reached, joined, are the text.
+ * passes + 49,156 lines, most of them empty: the first line, one for each pass (local's and its unmatched line are one), the
+ * three role lines, and three for each cell. Pieces from line 0 on until that number is reached, joined, are the text.
  * 3 also where `from` is above that number. */
 uint32_t projective_grid_write_result_piece(
     size_t corners, size_t passes,

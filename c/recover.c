@@ -23,7 +23,7 @@ static float float_of(uint32_t bits) {
     return x;
 }
 
-/* Runs the pass p on n corners; its outcome goes to out. */
+/* Runs the pass p on n corners; its outcome goes to out, the plant's whoever runs it. */
 static uint32_t run_pass(const uint32_t *p, size_t n, uint32_t *out) {
     float search = float_of(p[PROJECTIVE_GRID_PASS_SEARCH]), factor = float_of(p[PROJECTIVE_GRID_PASS_FACTOR]);
     float third = float_of(p[PROJECTIVE_GRID_PASS_THIRD]);
@@ -41,6 +41,14 @@ static uint32_t run_pass(const uint32_t *p, size_t n, uint32_t *out) {
         s[0], s[1], s[2], s[3], s[4], s[5], search, factor, rounds, third, depth, out, PROJECTIVE_GRID_OUTCOME_WORDS);
 }
 
+/* Runs the pass p, and puts its role, as the reader wrote it, over that of its outcome. */
+static uint32_t run_roled(const uint32_t *p, size_t n, uint32_t *out) {
+    uint32_t answer = run_pass(p, n, out);
+    if (answer == PROJECTIVE_GRID_DONE)
+        out[PROJECTIVE_GRID_OUTCOME_ROLE] = p[PROJECTIVE_GRID_PASS_ROLE];
+    return answer;
+}
+
 /* Says on standard error what went wrong; the status of such a run. */
 static int failed(const char *what) {
     fprintf(stderr, "recover: %s\n", what);
@@ -55,7 +63,7 @@ static int written(int fine) {
 /* Prints the result of n corners and m passes piece by piece; the status of the run. */
 static int write_result(size_t n, size_t m) {
     size_t line = 0;
-    while (line < m + 49153) {
+    while (line < m + PROJECTIVE_GRID_LINES) {
         uint32_t out[PROJECTIVE_GRID_PIECE_OUT];
         uint32_t answer = projective_grid_write_result_piece(
             n, m, words, PROJECTIVE_GRID_OUTCOME_WORDS * m, sheet, PROJECTIVE_GRID_SHEET, line, text, sizeof text, out, 2);
@@ -83,7 +91,7 @@ int main(int count, char **arguments) {
     if (answer != PROJECTIVE_GRID_DONE)
         return written(printf("(refused %u %u)\n", (unsigned)PROJECTIVE_GRID_NUMBER(answer), (unsigned)PROJECTIVE_GRID_LINE(answer)) > 0);
     for (size_t k = 0; k < head[1]; k++)
-        if (run_pass(passes + PROJECTIVE_GRID_PASS_WORDS * k, head[0], words + PROJECTIVE_GRID_OUTCOME_WORDS * k) != PROJECTIVE_GRID_DONE)
+        if (run_roled(passes + PROJECTIVE_GRID_PASS_WORDS * k, head[0], words + PROJECTIVE_GRID_OUTCOME_WORDS * k) != PROJECTIVE_GRID_DONE)
             return failed("a pass was refused");
     return write_result(head[0], head[1]);
 }

@@ -3,7 +3,7 @@
  * was: of what is lent as shades that is more than a byte may be, and must not be looked at. Then values that are refused
  * by 1 to 6, every wrong label box among them, and frames that are refused by 8 to 10: again no place may change. A box that
  * a call writes has to be what a search of the sheet finds, and the words of passes that stand behind as lines what is
- * written here.
+ * written here. The role lines of a text have to be the sums, worked out here, for each pass under each role.
  * Argument: an accepted frame. */
 #include <math.h>
 #include <stdio.h>
@@ -14,6 +14,7 @@
 
 enum { MORE = 3, CORNERS = PROJECTIVE_GRID_CORNERS + 1 + MORE, TEXT = PROJECTIVE_GRID_LONGEST_TEXT };
 enum { WORDS = PROJECTIVE_GRID_OUTCOME_WORDS, BOX = PROJECTIVE_GRID_BOX, UNTOUCHED = 0xa5 };
+enum { KIND = PROJECTIVE_GRID_OUTCOME_KIND, ROLE = PROJECTIVE_GRID_OUTCOME_ROLE, LINES = PROJECTIVE_GRID_LINES };
 enum { PASS_WORDS = PROJECTIVE_GRID_PASS_WORDS, PASSES = PROJECTIVE_GRID_PASSES };
 enum { EMPTY = PROJECTIVE_GRID_BOX_EMPTY, LOW_I = PROJECTIVE_GRID_BOX_LOW_I, HIGH_I = PROJECTIVE_GRID_BOX_HIGH_I };
 enum { LOW_J = PROJECTIVE_GRID_BOX_LOW_J, HIGH_J = PROJECTIVE_GRID_BOX_HIGH_J };
@@ -296,6 +297,7 @@ static void pass(struct call *c) {
     labels(c);
     boxes(c);
     lengths(c);
+    check(out[ROLE] == PROJECTIVE_GRID_PLANT, c->name, "a pass writes another role than the plant's", "out");
 }
 
 /* ---- the reader and the writers */
@@ -453,7 +455,8 @@ static void writer(struct call *c) {
     /* of grow, which has no shade, and of local, the third */
     uint32_t *local = words + 2 * WORDS;
     uint32_t wild[][2] = {{0, 3}, {1, 1048577}, {5, 65}, {6, 2}, {8, 2}, {9, 1}, {9, 2}, {10, 1}, {2 * WORDS + 9, 2},
-                          {2 * WORDS + 10, local[9] ? 1073741825 : 1}};
+                          {2 * WORDS + 10, local[9] ? 1073741825 : 1}, {ROLE, 3}, {WORDS + ROLE, 4}, {2 * WORDS + ROLE, 255},
+                          {2 * WORDS + ROLE, UINT32_MAX}};
     for (size_t k = 0; k < sizeof wild / sizeof wild[0]; k++) {
         uint32_t right = words[wild[k][0]];
         words[wild[k][0]] = wild[k][1];
@@ -477,15 +480,15 @@ static void writer(struct call *c) {
 
 /* All pieces by 128 bytes and by 4,096, joined, are the whole text. */
 static void joined(size_t bytes) {
-    static uint8_t whole[TEXT];
-    memcpy(whole, text, bytes);
+    static uint8_t kept[TEXT];
+    memcpy(kept, text, bytes);
     for (size_t room = 128; room <= 4096; room += 4096 - 128) {
         size_t at = 0, line = 0;
-        while (line < pass_count + 49153) {
+        while (line < pass_count + LINES) {
             uint32_t end[2];
             uint32_t answer = projective_grid_write_result_piece(corners, pass_count, words, WORDS * pass_count, sheet,
                                                                  PROJECTIVE_GRID_SHEET, line, text, room, end, 2);
-            if (answer || end[1] <= line || at + end[0] > bytes || memcmp(whole + at, text, end[0])) {
+            if (answer || end[1] <= line || at + end[0] > bytes || memcmp(kept + at, text, end[0])) {
                 check(0, "write_result_piece", "the pieces, joined, are not the text", "text");
                 return;
             }
@@ -493,6 +496,148 @@ static void joined(size_t bytes) {
         }
         check(at == bytes, "write_result_piece", "the pieces, joined, are not the text", "text");
     }
+}
+
+/* ---- the role lines */
+
+static const char *const role_names[] = {"plant", "depot", "dealer"};
+
+/* The three role lines of the words: each the sums over the passes under that role, to which fill adds what it attached alone.
+ * A role above 2 counts as the dealer's: no such text is written, but it has a length. */
+static size_t role_lines(char *lines, size_t room) {
+    size_t length = 0;
+    for (uint32_t role = PLANT; role <= DEALER; role++) {
+        unsigned long long sums[4] = {0};
+        for (size_t k = 0; k < pass_count; k++) {
+            const uint32_t *outcome = words + WORDS * k;
+            uint32_t under = outcome[ROLE] > DEALER ? DEALER : outcome[ROLE];
+            for (size_t n = 0; n < (outcome[KIND] == PROJECTIVE_GRID_FILL ? 1 : 4); n++)
+                sums[n] += under == role ? outcome[PROJECTIVE_GRID_OUTCOME_ATTACHED + n] : 0;
+        }
+        length += (size_t)snprintf(lines + length, room - length, "(role %s %llu %llu %llu %llu)\n", role_names[role], sums[0], sums[1],
+                                   sums[2], sums[3]);
+    }
+    return length;
+}
+
+/* The text of the words and the sheet, its length, and where its role lines stand: behind the first line and those of the passes. */
+static uint8_t whole[TEXT];
+static size_t whole_length, roles_at, roles_length;
+
+/* Writes it; what stands before and behind the role lines has to be this, where it is known, and they have to be the sums. */
+static int write_whole(const uint8_t *before, size_t before_length, const uint8_t *behind, size_t behind_length) {
+    char lines[256];
+    uint32_t length, answer = projective_grid_write_result(corners, pass_count, words, WORDS * pass_count, sheet, PROJECTIVE_GRID_SHEET,
+                                                           whole, TEXT, &length, 1);
+    whole_length = answer ? 0 : length, roles_at = 0, roles_length = role_lines(lines, sizeof lines);
+    size_t above = 1 + pass_count;
+    for (size_t k = 0; k < pass_count; k++)
+        above += words[WORDS * k + PROJECTIVE_GRID_OUTCOME_SHADED];
+    while (above && roles_at < whole_length)
+        above -= whole[roles_at++] == '\n';
+    size_t end = roles_at + roles_length;
+    return !answer && end <= whole_length && !memcmp(whole + roles_at, lines, roles_length)
+        && (!before || (roles_at == before_length && !memcmp(whole, before, before_length)))
+        && (!behind || (whole_length - end == behind_length && !memcmp(whole + end, behind, behind_length)));
+}
+
+/* A piece from that line on in so much room: how many bytes it has to have, from where in the text on, and the line behind it. */
+static void piece_is(size_t line, size_t room, size_t at, size_t length, size_t next) {
+    uint32_t end[2] = {0};
+    uint32_t answer = projective_grid_write_result_piece(corners, pass_count, words, WORDS * pass_count, sheet, PROJECTIVE_GRID_SHEET, line,
+                                                         text, room, end, 2);
+    check(!answer && end[0] == length && end[1] == next && !memcmp(text, whole + at, length), "write_result_piece",
+          "another piece than expected", "about the role lines");
+}
+
+/* Pieces that begin or end at a role line, one line each, two and three; and that behind the last line of the text. */
+static void pieces_about_roles(void) {
+    size_t at = roles_at, line = pass_count + 1, starts[4] = {roles_at};
+    for (size_t k = 1; k < 4; starts[k++] = at)
+        while (at < whole_length && whole[at++] != '\n');
+    for (size_t k = 0; k < 3; k++)
+        for (size_t m = k + 1; m <= 3; m++) {
+            /* with one byte more there is room for the line behind */
+            piece_is(line + k, 128 + starts[m - 1] - starts[k], starts[k], starts[m] - starts[k], line + m);
+            if (m > k + 1)
+                piece_is(line + k, 127 + starts[m - 1] - starts[k], starts[k], starts[m - 1] - starts[k], line + m - 1);
+        }
+    /* the last pass line, with its unmatched line, or where there is none the first line */
+    size_t above = pass_count && words[WORDS * (pass_count - 1) + PROJECTIVE_GRID_OUTCOME_SHADED] ? 2 : 1, last = roles_at;
+    for (; last && above; above -= !last || whole[last - 1] == '\n')
+        last--;
+    piece_is(pass_count, 128, last, roles_at - last, line);
+    piece_is(pass_count + LINES, 128, 0, 0, pass_count + LINES);
+}
+
+/* Each pass under each role: the same text but for the role lines. */
+static void each_role(const uint8_t *before, size_t before_length, const uint8_t *behind, size_t behind_length) {
+    for (uint32_t all = 0; all < 27; all++) {
+        words[ROLE] = all % 3, words[WORDS + ROLE] = all / 3 % 3, words[2 * WORDS + ROLE] = all / 9;
+        check(write_whole(before, before_length, behind, behind_length), "write_result", "other role lines than the sums", "roles");
+        pieces_about_roles();
+    }
+    words[ROLE] = words[WORDS + ROLE] = words[2 * WORDS + ROLE] = PLANT;
+}
+
+/* Words that a pass has not: counts of a fill besides what it added, the largest sums, no pass, and the length of a text that is refused. */
+static void other_words(const uint8_t *behind, size_t behind_length) {
+    static uint32_t kept[sizeof words / sizeof words[0]];
+    size_t kept_count = pass_count;
+    memcpy(kept, words, sizeof words);
+    for (size_t n = 2; n < 5; n++)
+        words[WORDS + n] = (uint32_t)n;
+    check(words[WORDS + KIND] == PROJECTIVE_GRID_FILL && write_whole(0, 0, behind, behind_length), "write_result",
+          "fill adds to more than attached", "words");
+    for (pass_count = 0; pass_count < PASSES; pass_count++) {
+        check(write_whole(0, 0, behind, behind_length), "write_result", "other role lines than the sums", "so many passes");
+        pieces_about_roles();
+        memcpy(words + WORDS * pass_count, (uint32_t[WORDS]){PROJECTIVE_GRID_GROW, 1048576, 1048576, 1048576, 1048576}, WORDS * sizeof words[0]);
+        words[WORDS * pass_count + ROLE] = DEALER;
+    }
+    static const char largest[] = "(role plant 0 0 0 0)\n(role depot 0 0 0 0)\n(role dealer 16777216 16777216 16777216 16777216)\n";
+    check(write_whole(0, 0, behind, behind_length) && !memcmp(whole + roles_at, largest, sizeof largest - 1), "write_result",
+          "other role lines than the largest sums", "words");
+    pieces_about_roles();
+    /* three grows with counts that no outcome has, of the dealer and of no role: 7 asks for the length, with sums above 32 bits */
+    static const char wild[] =
+        "(result 1)\n(grow 4294967295 4294967295 4294967295 4294967295 no)\n(grow 4294967295 4294967295 4294967295 4294967295 no)\n"
+        "(grow 4294967295 4294967295 4294967295 4294967295 no)\n"
+        "(role plant 0 0 0 0)\n(role depot 0 0 0 0)\n(role dealer 12884901885 12884901885 12884901885 12884901885)\n";
+    pass_count = 3;
+    for (size_t k = 0; k < 3; k++) {
+        memcpy(words + WORDS * k, (uint32_t[WORDS]){PROJECTIVE_GRID_GROW, UINT32_MAX, UINT32_MAX, UINT32_MAX, UINT32_MAX}, WORDS * sizeof words[0]);
+        words[WORDS * k + ROLE] = k ? UINT32_MAX : DEALER;
+    }
+    for (size_t more = 0; more < 2; more++) {
+        uint32_t length = UNTOUCHED;
+        uint32_t answer = projective_grid_write_result(corners, pass_count, words, WORDS * pass_count, sheet, PROJECTIVE_GRID_SHEET, text,
+                                                       sizeof wild - 2 + behind_length + more, &length, 1);
+        check(answer == (more ? PROJECTIVE_GRID_OUT_OF_RANGE : PROJECTIVE_GRID_BUFFER_TOO_SHORT) && length == UNTOUCHED, "write_result",
+              "the length of a refused text is not that of its words", "words");
+    }
+    pass_count = kept_count;
+    memcpy(words, kept, sizeof words);
+}
+
+/* The role lines of the three passes, which are the plant's as they left them, and of other words. */
+static void counts_by_role(void) {
+    check(write_whole(0, 0, 0, 0), "write_result", "other role lines than the sums", "words");
+    size_t before_length = roles_at, behind_length = whole_length - roles_at - roles_length;
+    uint8_t *before = malloc(before_length), *behind = malloc(behind_length + 1);
+    if (!before || !behind) {
+        perror("short");
+        exit(1);
+    }
+    memcpy(before, whole, before_length), memcpy(behind, whole + roles_at + roles_length, behind_length);
+    each_role(before, before_length, behind, behind_length);
+    other_words(behind, behind_length);
+    words[ROLE] = DEALER, words[2 * WORDS + ROLE] = DEPOT;
+    check(write_whole(before, before_length, behind, behind_length), "write_result", "other role lines than the sums", "roles");
+    memcpy(text, whole, whole_length);
+    joined(whole_length);
+    words[ROLE] = words[2 * WORDS + ROLE] = PLANT;
+    free(before), free(behind);
 }
 
 static void made(struct call *c) {
@@ -553,7 +698,8 @@ int main(int count, char **arguments) {
     restore(writing.b, writing.count);
     writer(&writing);
     joined(writing.b[2].needed);
-    from = pass_count + 49154;
+    counts_by_role();
+    from = pass_count + LINES + 1;
     refused(&cutting, PROJECTIVE_GRID_OUT_OF_RANGE, "a line behind the last");
     from = 0;
     writer(&cutting);

@@ -4,9 +4,11 @@
     c/test.py                 builds (c/build), then compares c/out/recover with crates/recover/out/recover byte for byte: the
                               example frames, the refused ones too, the frames of compare/, every text of
                               compare/cases.py, refused ones included, generated frames, and each role with each form
-                              of a pass, whose answers are known; where c/out/recover cannot read or write, it has to say
-                              so on standard error and end with status 1; then runs c/out/short on accepted frames (short
-                              buffers, refused values, every wrong label box, who runs which pass)
+                              of a pass, whose answers are known; the role lines of each result have to be the sums of
+                              its pass lines, and a result with as lines what compare/reference.py answers; where
+                              c/out/recover cannot read or write, it has to say so on standard error and end with
+                              status 1; then runs c/out/short on accepted frames (short buffers, refused values, every
+                              wrong label box, who runs which pass, each pass counted under each role)
     c/test.py --frames N      N generated frames (default 1000), --seed S from another seed
     c/test.py --built         does not build first
 
@@ -28,6 +30,7 @@ sys.path.insert(0, os.path.join(ROOT, "compare"))
 
 import cases
 import generate
+import reference
 
 OURS = os.path.join(HERE, "out", "recover")
 SHORT = os.path.join(HERE, "out", "short")
@@ -36,6 +39,33 @@ PROVED = os.path.join(ROOT, "crates", "recover", "out", "recover")
 ABOVE = cases.HEAD + cases.CORNERS + cases.LABELS
 FORMS = ["(grow)", "(fill)", "(grow 3eb33333 3fc00000 3fa00000)", "(fill 3eb33333 3fc00000 1)", "(grow 3f000000 3fc00000 40000000)",
          "(fill 3f000000 3fc00000 2)", "(local 3eb33333 3fc00000 1 3e800000 1)"]
+ROLES = ("plant", "depot", "dealer")
+
+
+def roles_of(data):
+    """Who runs each pass of an accepted frame: whom the last as line above it names, and the plant without one."""
+    role, roles = "plant", []
+    for line in data.decode("latin-1").split("\n"):
+        if line.startswith("(as "):
+            role = line[4:-1]
+        elif line.startswith(("(grow", "(fill", "(local")):
+            roles.append(role)
+    return roles
+
+
+def with_role_lines(text, roles):
+    """02, 7/14: a result with three role lines behind its pass lines, in place of those that it has there: for each role
+    the four counts of the pass lines under it, of fill's the first alone."""
+    lines = text.decode("latin-1").split("\n")
+    above = [line for line in lines[1:] if line.startswith(("(grow ", "(fill ", "(local ", "(unmatched "))]
+    below = [line for line in lines[1:] if line not in above and not line.startswith("(role ")]
+    sums = {role: [0] * 4 for role in ROLES}
+    for role, line in zip(roles, [line for line in above if not line.startswith("(unmatched ")], strict=True):
+        kind, *numbers = line[1:-1].split()
+        for k in range(1 if kind == "fill" else 4):
+            sums[role][k] += int(numbers[k])
+    counted = [f"(role {role} {' '.join(map(str, sums[role]))})" for role in ROLES]
+    return "\n".join(lines[:1] + above + counted + below).encode("latin-1")
 
 
 class Comparison:
@@ -57,24 +87,32 @@ class Comparison:
                 sys.exit(f"c/test.py: {name} {how}: {done.stdout[:200]!r} {done.stderr[:200]!r} {done.returncode}, the proved "
                          f"program says {expected.stdout[:200]!r} {expected.stderr[:200]!r} {expected.returncode} (differs.frame)")
         self.count += 1
-        self.refused += expected.stdout.startswith(b"(refused")
+        refused = expected.stdout.startswith(b"(refused")
+        self.refused += refused
+        if not refused and expected.stdout != with_role_lines(expected.stdout, roles_of(data)):
+            sys.exit(f"c/test.py: {name}: the role lines are not the sums over its pass lines, or stand elsewhere: {expected.stdout[:400]!r}")
         return expected.stdout
 
     def compare_roles(self, frames):
-        """02, 6/14: each role with each form of a pass, refused with 10 at its line or answered as without the as line; and
-        accepted frames where a role stands in the place of one that may run less."""
-        for role in ("plant", "depot", "dealer"):
+        """02, 6/14 and 7/14: each role with each form of a pass, refused with 10 at its line or answered as without the as
+        line, but for the role lines; accepted frames, as the model answers them, and where a role stands in the place of one
+        that may run less, with other role lines alone."""
+        for role in ROLES:
             for form in FORMS:
                 may = role == "plant" or role == "depot" and not form.startswith("(local") or form in ("(grow)", "(fill)")
-                said = self.compare(f"{form} run by the {role}", cases.text(ABOVE + [f"(as {role})", form]))
-                wanted = self.compare(form, cases.text(ABOVE + [form])) if may else b"(refused 10 %d)\n" % (len(ABOVE) + 2)
-                if said != wanted:
+                data = cases.text(ABOVE + [f"(as {role})", form])
+                said = self.compare(f"{form} run by the {role}", data)
+                plain = self.compare(form, cases.text(ABOVE + [form]))
+                wanted = with_role_lines(plain, [role]) if may else b"(refused 10 %d)\n" % (len(ABOVE) + 2)
+                if not said == wanted == reference.result(data).encode():
                     sys.exit(f"c/test.py: {form} run by the {role}: {said[:200]!r}, but asked is {wanted[:200]!r}")
         for name, data in frames:
             said = self.compare(name, data)
+            if said != reference.result(data).encode():
+                sys.exit(f"c/test.py: {name}: another answer than the model's")
             for role, higher in ((b"dealer", b"depot"), (b"dealer", b"plant"), (b"depot", b"plant")):
                 other = data.replace(b"\n(as %s)\n" % role, b"\n(as %s)\n" % higher)
-                if self.compare(f"{name}, the {higher.decode()} for the {role.decode()}", other) != said:
+                if self.compare(f"{name}, the {higher.decode()} for the {role.decode()}", other) != with_role_lines(said, roles_of(other)):
                     sys.exit(f"c/test.py: {name}: another answer where the {higher.decode()} stands for the {role.decode()}")
 
     def say(self, what):
@@ -159,7 +197,7 @@ def main():
         done = subprocess.run([SHORT, path], capture_output=True, text=True, timeout=600)
         if done.returncode:
             sys.exit(f"c/test.py: {os.path.relpath(path, ROOT)}: {done.stdout[-2000:]}{done.stderr[-2000:]}{done.returncode}")
-    print(f"c/test.py: every buffer one place short, every wrong label box and each role, on {len(accepted)} frames: {done.stdout.strip()} on the last")
+    print(f"c/test.py: every buffer one place short, every wrong label box, each role and its counts, on {len(accepted)} frames: {done.stdout.strip()} on the last")
 
 
 if __name__ == "__main__":

@@ -21,7 +21,7 @@ def texts(count):
     by_hand = (cases.whole(), cases.bent(), cases.overfull(), cases.wild(), cases.labels())
     by_hand += (cases.whole_shades(), cases.bent_shades(), cases.misplaced_shades(), cases.strange_shades())
     by_hand += (cases.joined_patches(), cases.unjoined_patches(), cases.strange_patches(), cases.misplaced_patches(), cases.large_patches())
-    by_hand += (cases.roles(),)
+    by_hand += (cases.roles(), cases.counts())
     spoilt = (cases.damaged(20, count // 2), cases.random_bytes(20, count // 2))
     for family in by_hand + spoilt:
         yield from ((name, data) for name, data, _ in family)

@@ -18,10 +18,12 @@ mod tests;
 
 /// The words that say a pass, the last of them who runs it.
 pub(crate) const PASS_WORDS: usize = 7;
-/// The words that say what a pass did.
-pub(crate) const OUTCOME_WORDS: usize = 11;
-/// The lines of a result's text beside those of the passes: the first one, and three for each cell, most of them empty.
-const LINES: usize = 1 + 3 * PLACES;
+/// The words that say what a pass did, and which of them, the last, says who ran it.
+pub(crate) const OUTCOME_WORDS: usize = 12;
+pub(crate) const ROLE_WORD: usize = 11;
+/// The lines of a result's text beside those of the passes: the first one, one for each role, and three for each cell, most
+/// of them empty.
+const LINES: usize = 1 + 3 + 3 * PLACES;
 
 #[rustfmt::skip]
 extern "C" {
@@ -117,7 +119,7 @@ fn done(answer: u32) -> Result<(), Refusal> {
     }
 }
 
-/// What a pass did: its eleven words, and the places of its new cells and, for grow, of its visited ones, in order.
+/// What a pass did: its twelve words, the last of them the plant's number, and the places of its new cells and, for grow, of its visited ones, in order.
 #[derive(Debug, PartialEq, Eq)]
 pub(crate) struct Done {
     pub(crate) words: [u32; OUTCOME_WORDS],
@@ -256,25 +258,31 @@ fn read_lent(text: &[u8], passes: &mut [u32]) -> Result<Read, RefusedFrame> {
     })
 }
 
-/// The text of a result, from eleven words for each pass.
+/// The text of a result, from twelve words for each pass.
 pub(crate) fn write_result(corners: usize, words: &[u32], sheet: &Sheet) -> Result<Vec<u8>, Refusal> {
     let passes = words.len() / OUTCOME_WORDS;
-    let places = sheet.places();
-    let (mut text, mut piece, mut line) = (Vec::new(), vec![0; 1 << 16], 0);
+    let (mut text, mut room, mut line) = (Vec::new(), vec![0; 1 << 16], 0);
     while line < passes + LINES {
-        let mut out = [0; 2];
-        // SAFETY: each start stands beside the length of the same slice. What is written are two locals, and what is
-        // only read are slices of two types that are borrowed from elsewhere.
-        #[rustfmt::skip]
-        let answer = unsafe {
-            projective_grid_write_result_piece(
-                corners, passes, words.as_ptr(), words.len(), places.as_ptr(), places.len(),
-                line, piece.as_mut_ptr(), piece.len(), out.as_mut_ptr(), out.len(),
-            )
-        };
-        done(answer)?;
-        text.extend_from_slice(&piece[..out[0] as usize]);
-        line = out[1] as usize;
+        let (bytes, next) = write_piece(corners, passes, words, sheet.places(), line, &mut room)?;
+        text.extend_from_slice(&room[..bytes]);
+        line = next;
     }
     Ok(text)
+}
+
+/// Writes the lines from this one on that there is room for: how many bytes, and the line behind them.
+#[rustfmt::skip]
+fn write_piece(
+    corners: usize, passes: usize, words: &[u32], places: &[u16], line: usize, room: &mut [u8],
+) -> Result<(usize, usize), Refusal> {
+    let mut out = [0; 2];
+    // SAFETY: each start stands beside the length of the same slice. What is written are a local and `room`, which is
+    // borrowed mutably, and what is only read are slices of two types that are borrowed from elsewhere.
+    let answer = unsafe {
+        projective_grid_write_result_piece(
+            corners, passes, words.as_ptr(), words.len(), places.as_ptr(), places.len(),
+            line, room.as_mut_ptr(), room.len(), out.as_mut_ptr(), out.len(),
+        )
+    };
+    done(answer).map(|()| (out[0] as usize, out[1] as usize))
 }

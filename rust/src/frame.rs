@@ -1,9 +1,9 @@
 //! A frame, and what comes of it.
 use crate::calls;
-use crate::{FillParams, GrowParams, LocalParams, Pass, PassOutcome, Recovery, RefusedFrame, Sheet};
+use crate::{FillParams, GrowParams, LocalParams, Pass, PassOutcome, Recovery, RefusedFrame, RoleCounts, Sheet};
 use std::fmt;
 
-/// Who runs a pass of a frame.
+/// Who runs a pass.
 #[derive(Clone, Copy, Debug, PartialEq, Eq, Hash)]
 pub enum Role {
     /// The plant, who may run all.
@@ -15,7 +15,13 @@ pub enum Role {
 }
 
 impl Role {
-    const ALL: [Role; 3] = [Role::Plant, Role::Depot, Role::Dealer];
+    /// The three roles, in the order of a result's role lines.
+    pub const ALL: [Role; 3] = [Role::Plant, Role::Depot, Role::Dealer];
+
+    /// The role of a number, 0 to 2.
+    pub(crate) fn numbered(number: u32) -> Role {
+        Role::ALL[number as usize]
+    }
 
     /// Its number, 0 to 2.
     pub fn number(self) -> u32 {
@@ -70,7 +76,7 @@ fn pass(words: &[u32]) -> Pass {
 }
 
 fn role(words: &[u32]) -> Role {
-    Role::ALL[words[6] as usize]
+    Role::numbered(words[6])
 }
 
 impl Frame {
@@ -96,19 +102,20 @@ impl Frame {
     }
 
     /// Who runs each of its passes, in order. A frame is refused by [`Refusal::NotPermitted`](crate::Refusal::NotPermitted)
-    /// if a pass is not open to its role; nothing that is run or printed depends on who runs it.
+    /// if a pass is not open to its role. What a pass does is the same whoever runs it: of the text of the result, only the
+    /// role lines depend on it.
     pub fn roles(&self) -> &[Role] {
         &self.roles
     }
 
-    /// Runs its passes.
+    /// Runs its passes, each counted for the role that runs it.
     pub fn recover(self) -> Outcome {
         let mut recovery = self.start;
-        let passes = self.passes.into_iter().map(|pass| {
-            let done = recovery.run(pass);
+        let passes = self.passes.into_iter().zip(&self.roles).map(|(pass, &role)| {
+            let done = recovery.run_as(role, pass);
             done.expect("an accepted frame is in range")
         });
-        Outcome { passes: passes.collect(), recovery }
+        Outcome { passes: passes.collect(), roles: self.roles, recovery }
     }
 }
 
@@ -117,12 +124,23 @@ impl Frame {
 pub struct Outcome {
     recovery: Recovery,
     passes: Vec<PassOutcome>,
+    roles: Vec<Role>,
 }
 
 impl Outcome {
     /// What each pass did, in order.
     pub fn passes(&self) -> &[PassOutcome] {
         &self.passes
+    }
+
+    /// Who ran each of them, in order: so each new cell of a pass is its role's.
+    pub fn roles(&self) -> &[Role] {
+        &self.roles
+    }
+
+    /// What the passes of a role did together, as its role line says it.
+    pub fn counts(&self, role: Role) -> RoleCounts {
+        self.recovery.counts(role)
     }
 
     /// The sheet as the last pass left it.

@@ -30,7 +30,7 @@ mod sheet;
 
 pub use frame::{Frame, Outcome, Role};
 pub use recovery::{Corner, FillOutcome, FillParams, GrowOutcome, GrowParams, Kind};
-pub use recovery::{LocalOutcome, LocalParams, Pass, PassOutcome, Recovery, Settings};
+pub use recovery::{LocalOutcome, LocalParams, Pass, PassOutcome, Recovery, RoleCounts, Settings};
 pub use refusal::{Refusal, RefusedFrame};
 pub use sheet::{Cell, CornerNumber, LabelBox, Sheet};
 

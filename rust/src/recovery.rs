@@ -1,7 +1,7 @@
 //! A recovery: corners, settings and the sheet that the passes fill.
 use crate::calls::{self, Corners, Done};
 use crate::sheet::{Cell, CornerNumber, LabelBox, Sheet};
-use crate::Refusal;
+use crate::{Refusal, Role};
 
 /// The kind of a corner, on panels that print two.
 #[derive(Clone, Copy, Debug, PartialEq, Eq, Hash)]
@@ -172,6 +172,19 @@ pub enum PassOutcome {
     Local(LocalOutcome),
 }
 
+/// What the passes of a role did together: each number the sum over them.
+#[derive(Clone, Copy, Debug, Default, PartialEq, Eq)]
+pub struct RoleCounts {
+    /// How many cells grow, fill and local attached.
+    pub attached: u64,
+    /// How many cells had no candidate, at grow and local.
+    pub no_candidate: u64,
+    /// How many were ambiguous, at grow and local.
+    pub ambiguous: u64,
+    /// How many were refused by their edges, at grow and local.
+    pub edge: u64,
+}
+
 fn cells(places: &[u16]) -> Vec<Cell> {
     places.iter().map(|&p| Cell::of_place(usize::from(p))).collect()
 }
@@ -185,7 +198,7 @@ pub struct Recovery {
     settings: Settings,
     corners: Corners,
     sheet: Sheet,
-    /// Eleven words for each pass that was run.
+    /// Twelve words for each pass that was run, the last of them the number of the role that ran it.
     words: Vec<u32>,
 }
 
@@ -233,9 +246,19 @@ impl Recovery {
         self.local_lent(params, &mut self.kept_box())
     }
 
-    /// Runs a pass of any kind.
+    /// Runs a pass of any kind, which is counted for the plant, as are those of [`grow`](Recovery::grow),
+    /// [`fill`](Recovery::fill), [`local`](Recovery::local) and [`run_lent`](Recovery::run_lent).
     pub fn run(&mut self, pass: Pass) -> Result<PassOutcome, Refusal> {
         self.run_lent(pass, &mut self.kept_box())
+    }
+
+    /// Runs a pass that is counted for this role. Nothing else depends on the role, and none is refused: only a frame asks
+    /// whether its roles may run its passes.
+    pub fn run_as(&mut self, role: Role, pass: Pass) -> Result<PassOutcome, Refusal> {
+        let outcome = self.run(pass)?;
+        // What the library wrote of the pass ends with the plant's number.
+        *self.words.last_mut().expect("a pass was run") = role.number();
+        Ok(outcome)
     }
 
     /// Runs a pass that is lent these places for the label box, in place of the box that is kept with the sheet: a mark, 1
@@ -280,7 +303,8 @@ impl Recovery {
 
     fn local_lent(&mut self, params: LocalParams, around: &mut [i32]) -> Result<LocalOutcome, Refusal> {
         let done = self.lent(Pass::Local(params), around)?;
-        let [_, _, no_candidate, ambiguous, edge, rounds, has_residual, residual, rim, shaded, unmatched] = done.words;
+        let [_, _, no_candidate, ambiguous, edge, rounds, has_residual, residual, rim, shaded, unmatched, _] =
+            done.words;
         Ok(LocalOutcome {
             attached: cells(&done.attached),
             no_candidate,
@@ -330,7 +354,31 @@ impl Recovery {
         self.words.len() / calls::OUTCOME_WORDS
     }
 
-    /// The text of the result: the passes that were run, then the sheet.
+    /// Who ran each of them, in order.
+    pub fn roles(&self) -> impl Iterator<Item = Role> + '_ {
+        self.outcomes().map(|words| Role::numbered(words[calls::ROLE_WORD]))
+    }
+
+    /// What the passes of a role did together, as its role line says it.
+    pub fn counts(&self, role: Role) -> RoleCounts {
+        let mut counts = RoleCounts::default();
+        for words in self.outcomes().filter(|words| words[calls::ROLE_WORD] == role.number()) {
+            // Of fill, the words behind the first count are 0.
+            let [attached, no_candidate, ambiguous, edge] = [1, 2, 3, 4].map(|k| u64::from(words[k]));
+            counts.attached += attached;
+            counts.no_candidate += no_candidate;
+            counts.ambiguous += ambiguous;
+            counts.edge += edge;
+        }
+        counts
+    }
+
+    /// The words of each pass that was run.
+    fn outcomes(&self) -> impl Iterator<Item = &[u32]> + '_ {
+        self.words.chunks_exact(calls::OUTCOME_WORDS)
+    }
+
+    /// The text of the result: the passes that were run, a line for each role, then the sheet.
     ///
     /// Refused by [`Refusal::OverLimit`] if more than 16 passes were run, and by nothing else.
     pub fn text(&self) -> Result<Vec<u8>, Refusal> {

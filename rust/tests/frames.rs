@@ -1,7 +1,7 @@
 //! Frames: the specification's example by hand, each refusal, and the frame's passes one by one.
 use projective_grid_verified::{
     Cell, Corner, FillParams, Frame, GrowParams, Kind, LocalParams, Pass, PassOutcome, Recovery, Refusal, RefusedFrame,
-    Settings, MAX_FRAME_BYTES,
+    Role, RoleCounts, Settings, MAX_FRAME_BYTES,
 };
 
 const HEAD: &str = "(frame 1)
@@ -17,6 +17,9 @@ const ROW: &str = "(corner (41200000 41200000) 00000000)
 ";
 const RESULT: &str = "(result 1)
 (grow 1 8 0 0 no)
+(role plant 1 8 0 0)
+(role depot 0 0 0 0)
+(role dealer 0 0 0 0)
 (cell (0 0) 0)
 (cell (1 0) 1)
 (cell (2 0) 2)
@@ -29,6 +32,9 @@ const RESULT: &str = "(result 1)
 (hole (2 1))
 (hole (3 0))
 ";
+
+/// The role lines where no pass has run.
+const NO_COUNTS: &str = "(role plant 0 0 0 0)\n(role depot 0 0 0 0)\n(role dealer 0 0 0 0)\n";
 
 fn parse(text: String) -> Result<Frame, RefusedFrame> {
     Frame::parse(text.as_bytes())
@@ -60,7 +66,8 @@ fn the_example() {
     assert_eq!(xs, [10.0, 20.0, 30.0]);
     let given: Vec<(Cell, usize)> = start.sheet().labelled().map(|(c, n)| (c, n.index())).collect();
     assert_eq!(given, [(cell(0, 0), 0), (cell(1, 0), 1)]);
-    assert_eq!(start.text().expect("no pass"), b"(result 1)\n(cell (0 0) 0)\n(cell (1 0) 1)\n");
+    let text = String::from_utf8(start.text().expect("no pass")).expect("text");
+    assert_eq!(text, format!("(result 1)\n{NO_COUNTS}(cell (0 0) 0)\n(cell (1 0) 1)\n"));
 
     let outcome = frame.recover();
     let [PassOutcome::Grow(grown)] = outcome.passes() else {
@@ -135,7 +142,8 @@ fn two_sets_of_labels() {
     assert_eq!(String::from_utf8(frame.recover().text()).expect("text"), RESULT);
     // Up to the sheet's last cells, in the first set's numbers.
     let rim = parse(format!("{HEAD}{corners}(label 0 (62 63))\n(patch)\n(label 0 (-64 -64))\n(label 2 (-63 -64))\n"));
-    assert_eq!(rim.expect("accepted").recover().text(), b"(result 1)\n(cell (62 63) 0)\n(cell (63 63) 2)\n");
+    let text = String::from_utf8(rim.expect("accepted").recover().text()).expect("text");
+    assert_eq!(text, format!("(result 1)\n{NO_COUNTS}(cell (62 63) 0)\n(cell (63 63) 2)\n"));
     let apart = parse(format!("{HEAD}{ROW}(patch)\n")).expect_err("refused");
     assert_eq!(apart.text(), b"(refused 8 10)\n");
     assert_eq!(apart.to_string(), "line 10: no corner is in both sets of labels");
@@ -238,6 +246,44 @@ fn one_by_one_as_the_frame() {
     assert_eq!(text, outcome.text());
     // As the frame program prints them.
     let lines =
-        "(result 1)\n(fill 11 2 no)\n(local 6 7 0 0 1 38c69856 no)\n(grow 42 33 0 0 no)\n(local 0 0 0 0 0 none no)\n";
+        "(result 1)\n(fill 11 2 no)\n(local 6 7 0 0 1 38c69856 no)\n(grow 42 33 0 0 no)\n(local 0 0 0 0 0 none no)\n\
+         (role plant 59 40 0 0)\n(role depot 0 0 0 0)\n(role dealer 0 0 0 0)\n(cell ";
     assert!(text.starts_with(lines.as_bytes()), "{}", String::from_utf8_lossy(&text));
+}
+
+#[test]
+fn counts_for_each_role() {
+    let passes = "(as depot)\n(fill 3eb33333 3fc00000 2)\n(as plant)\n(local 3eb33333 3fc00000 1 3f000000 1)\n\
+                  (as dealer)\n(grow)\n(as plant)\n(local 3eb33333 3fc00000 0 3f000000 0)\n";
+    let outcome = parse(lattice(passes)).expect("accepted").recover();
+    assert_eq!(outcome.roles(), [Role::Depot, Role::Plant, Role::Dealer, Role::Plant]);
+    let counts = Role::ALL.map(|role| {
+        let RoleCounts { attached, no_candidate, ambiguous, edge } = outcome.counts(role);
+        [attached, no_candidate, ambiguous, edge]
+    });
+    assert_eq!(counts, [[6, 7, 0, 0], [11, 0, 0, 0], [42, 33, 0, 0]]);
+    // All cells that are not given.
+    assert_eq!(outcome.sheet().labelled().count(), 4 + 6 + 11 + 42);
+    let text = String::from_utf8(outcome.text()).expect("text");
+    let roles: Vec<&str> = text.lines().skip(5).take(4).collect();
+    assert_eq!(&roles[..3], ["(role plant 6 7 0 0)", "(role depot 11 0 0 0)", "(role dealer 42 33 0 0)"]);
+    assert_eq!(roles[3], "(cell (0 0) 0)");
+    // Only these lines tell it from the frame without as lines.
+    let plain: String =
+        passes.lines().filter(|line| !line.starts_with("(as ")).map(|line| format!("{line}\n")).collect();
+    let others = |text: &str| -> Vec<String> {
+        text.lines().filter(|line| !line.starts_with("(role ")).map(String::from).collect()
+    };
+    let plain = String::from_utf8(parse(lattice(&plain)).expect("accepted").recover().text()).expect("text");
+    assert_eq!(others(&plain), others(&text));
+    // A pass that is run behind them is the plant's, or whose it is said to be.
+    let mut recovery = outcome.into_recovery();
+    recovery.grow(GrowParams::default()).expect("in range");
+    recovery.run_as(Role::Depot, Pass::Grow(GrowParams::default())).expect("in range");
+    assert_eq!(recovery.counts(Role::Dealer).attached, 42);
+    let grown = [Role::Plant, Role::Depot].map(|role| recovery.counts(role).no_candidate);
+    let [PassOutcome::Grow(again)] = [recovery.run(Pass::Grow(GrowParams::default())).expect("in range")] else {
+        panic!("grow");
+    };
+    assert_eq!(grown, [7 + u64::from(again.no_candidate), u64::from(again.no_candidate)]);
 }

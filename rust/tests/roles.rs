@@ -1,5 +1,5 @@
-//! Who runs which pass of a frame, and what is refused for that.
-use projective_grid_verified::{Frame, LocalParams, Recovery, Refusal, RefusedFrame, Role};
+//! Who runs which pass of a frame, what is refused for that, and what is counted for whom.
+use projective_grid_verified::{Frame, GrowParams, LocalParams, Pass, Recovery, Refusal, RefusedFrame, Role};
 
 const HEAD: &str = "(frame 1)
 (cell 41200000)
@@ -13,15 +13,16 @@ const HEAD: &str = "(frame 1)
 ";
 const ROLES: [Role; 3] = [Role::Plant, Role::Depot, Role::Dealer];
 const LOCAL: &str = "(local 3eb33333 3fc00000 1 3e800000 1)";
-/// The forms of a pass, the numbers of the bare ones written out among them, and the last role that may run each.
-const FORMS: [(&str, Role); 7] = [
-    ("(grow)", Role::Dealer),
-    ("(fill)", Role::Dealer),
-    ("(grow 3eb33333 3fc00000 3fa00000)", Role::Depot),
-    ("(fill 3eb33333 3fc00000 1)", Role::Depot),
-    ("(grow 3f000000 40000000 40400000)", Role::Depot),
-    ("(fill 3f000000 40000000 64)", Role::Depot),
-    (LOCAL, Role::Plant),
+/// The forms of a pass, the numbers of the bare ones written out among them, the last role that may run each, and the
+/// numbers of its role line: grow and fill attach corner 2, and local does nothing with two labels.
+const FORMS: [(&str, Role, &str); 7] = [
+    ("(grow)", Role::Dealer, "1 8 0 0"),
+    ("(fill)", Role::Dealer, "1 0 0 0"),
+    ("(grow 3eb33333 3fc00000 3fa00000)", Role::Depot, "1 8 0 0"),
+    ("(fill 3eb33333 3fc00000 1)", Role::Depot, "1 0 0 0"),
+    ("(grow 3f000000 40000000 40400000)", Role::Depot, "1 8 0 0"),
+    ("(fill 3f000000 40000000 64)", Role::Depot, "1 0 0 0"),
+    (LOCAL, Role::Plant, "0 0 0 0"),
 ];
 
 fn parse(lines: &str) -> Result<Frame, RefusedFrame> {
@@ -36,10 +37,17 @@ fn as_line(role: Role) -> String {
     format!("(as {role})\n")
 }
 
+/// The text of the result, and its role lines in another place.
+fn result(lines: &str) -> (String, Vec<String>) {
+    let text = String::from_utf8(parse(lines).expect("accepted").recover().text()).expect("text");
+    let (roles, others): (Vec<&str>, Vec<&str>) = text.lines().partition(|line| line.starts_with("(role "));
+    (others.join("\n"), roles.into_iter().map(String::from).collect())
+}
+
 #[test]
 fn each_role_with_each_form() {
     for role in ROLES {
-        for (form, last) in FORMS {
+        for (form, last, counts) in FORMS {
             let lines = format!("{}{form}\n", as_line(role));
             if role.number() > last.number() {
                 refused(&lines, Refusal::NotPermitted, 11);
@@ -47,7 +55,10 @@ fn each_role_with_each_form() {
             }
             let (frame, plain) = (parse(&lines).expect("accepted"), parse(&format!("{form}\n")).expect("accepted"));
             assert_eq!((frame.passes(), frame.roles()), (plain.passes(), &[role][..]), "{lines}");
-            assert_eq!(frame.recover().text(), plain.recover().text(), "{lines}");
+            let (said, of) = (result(&lines), result(&format!("{form}\n")));
+            assert_eq!(said.0, of.0, "{lines}");
+            let counted = |by| ROLES.map(|of| format!("(role {of} {})", if of == by { counts } else { "0 0 0 0" }));
+            assert_eq!((said.1, of.1), (counted(role).to_vec(), counted(Role::Plant).to_vec()), "{lines}");
         }
     }
 }
@@ -71,10 +82,13 @@ fn another_who_may_do_more_in_its_place() {
     let lines =
         |a, b| format!("{}(grow)\n(fill)\n{}(fill 3f000000 40000000 2)\n(as plant)\n{LOCAL}\n", as_line(a), as_line(b));
     let [plant, depot, dealer] = ROLES;
-    let text = |a, b| parse(&lines(a, b)).expect("accepted").recover().text();
     for a in ROLES {
         for b in [plant, depot] {
-            assert_eq!(text(a, b), text(dealer, depot), "{a}, {b}");
+            let (text, roles) = result(&lines(a, b));
+            assert_eq!(text, result(&lines(dealer, depot)).0, "{a}, {b}");
+            // Grow alone has something to attach.
+            let line = |of| format!("(role {of} {})", if of == a { "1 8 0 0" } else { "0 0 0 0" });
+            assert_eq!(roles, ROLES.map(line), "{a}, {b}");
         }
         refused(&lines(a, dealer), Refusal::NotPermitted, 14);
     }
@@ -114,12 +128,23 @@ fn only_a_pass_behind_an_as_line() {
 }
 
 #[test]
-fn calls_know_no_role() {
+fn calls_refuse_no_role() {
     let frame = parse("(as dealer)\n(grow)\n").expect("accepted");
     let mut recovery: Recovery = frame.recover().into_recovery();
     let local =
         LocalParams { search_rel: 0.35, ambiguity_factor: 1.5, max_iters: 1, max_residual_rel: 0.25, extend_depth: 1 };
     assert!(recovery.local(local).is_ok());
+    for role in ROLES {
+        assert!(recovery.run_as(role, Pass::Local(local)).is_ok());
+    }
+    assert_eq!(
+        recovery.roles().collect::<Vec<_>>(),
+        [Role::Dealer, Role::Plant, Role::Plant, Role::Depot, Role::Dealer]
+    );
+    // A pass that is refused counts for nobody.
+    let (text, wild) = (recovery.text(), GrowParams { attach_search_rel: f32::NAN, ..GrowParams::default() });
+    assert_eq!(recovery.run_as(Role::Depot, Pass::Grow(wild)), Err(Refusal::OutOfRange));
+    assert_eq!((recovery.passes_run(), recovery.text()), (5, text));
 }
 
 #[test]

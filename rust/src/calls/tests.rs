@@ -1,6 +1,6 @@
-//! Below the types: every wrong label box, handed to each pass, with any sheet, number of corners and places; and the places
-//! that the reader is lent for passes, every one of them.
-use super::{lent, pass, read_lent, Corners, Done};
+//! Below the types: every wrong label box, handed to each pass, with any sheet, number of corners and places; the places
+//! that the reader is lent for passes, every one of them; and the words of outcomes, with what is written of their roles.
+use super::{lent, pass, read_lent, write_piece, Corners, Done, LINES, OUTCOME_WORDS, ROLE_WORD};
 use crate::sheet::PLACES;
 use crate::{Corner, FillParams, GrowParams, LocalParams, Pass, Refusal, RefusedFrame, Settings, MAX_CORNERS};
 
@@ -202,4 +202,123 @@ fn a_refused_frame_has_no_words() {
         assert_eq!((refused.refusal.number(), refused.line), (number, line), "{lines}");
         assert_eq!(places, MANY, "{lines}");
     }
+}
+
+#[test]
+fn a_pass_writes_the_plant() {
+    for p in &passes() {
+        let c = corners(CORNERS);
+        let (mut places, mut around, mut b) = (labelled(), [0, 0, 2, 0, 0], lent(&c, p));
+        b.words = [77; OUTCOME_WORDS];
+        assert_eq!(pass(&c, &SETTINGS, p, &mut places, &mut around, &mut b), 0, "{p:?}");
+        assert_eq!(b.words[ROLE_WORD], 0, "{p:?}");
+        assert!(!b.words.contains(&77), "{p:?}: {:?}", b.words);
+    }
+}
+
+/// The words of a grow, a fill and a local pass, run by these. No fill has the three behind its first count, which are let
+/// through and count for nothing.
+fn outcomes(roles: [u32; 3]) -> Vec<u32> {
+    let [a, b, c] = roles;
+    let grow = [0, 1, 8, 2, 3, 0, 0, 0, 0, 0, 0, a];
+    let fill = [1, 30, 50, 60, 70, 2, 0, 0, 1, 0, 0, b];
+    let local = [2, 200, 300, 400, 500, 1, 0, 0, 0, 1, 6, c];
+    [grow, fill, local].concat()
+}
+
+/// What each adds to its role: attached, no candidate, ambiguous and edge.
+const ADDED: [[u32; 4]; 3] = [[1, 8, 2, 3], [30, 0, 0, 0], [200, 300, 400, 500]];
+/// The lines of their result: the first one, those of the passes, and, behind those of the roles, those of `labelled()`.
+const ABOVE: [&str; 4] =
+    ["(result 1)\n", "(grow 1 8 2 3 no)\n", "(fill 30 2 yes)\n", "(local 200 300 400 500 1 none no)\n(unmatched 6)\n"];
+const BELOW: &str = "(cell (0 0) 0)\n(cell (2 0) 2)\n(hole (-64 -59))\n(hole (2 0))\n(hole (63 59))\n\
+                     (ambiguous (-64 -59))\n(ambiguous (2 0))\n(ambiguous (63 59))\n";
+
+/// The role lines of outcomes that these ran.
+fn role_lines(roles: [u32; 3]) -> [String; 3] {
+    let sum = |role, k: usize| -> u32 { (0..3).filter(|&m| roles[m] == role).map(|m| ADDED[m][k]).sum() };
+    [(0, "plant"), (1, "depot"), (2, "dealer")].map(|(role, name)| {
+        format!("(role {name} {} {} {} {})\n", sum(role, 0), sum(role, 1), sum(role, 2), sum(role, 3))
+    })
+}
+
+/// The piece from this line on: its text, and the line behind it.
+fn piece(passes: usize, words: &[u32], line: usize, room: usize) -> Result<(String, usize), Refusal> {
+    let mut bytes = vec![b'?'; room];
+    let written = write_piece(CORNERS, passes, words, &labelled(), line, &mut bytes);
+    let (text, left) = bytes.split_at(written.as_ref().map_or(0, |written| written.0));
+    assert!(left.iter().all(|&byte| byte == b'?'), "line {line}: a byte behind the piece was changed");
+    written.map(|(_, next)| (String::from_utf8(text.to_vec()).expect("text"), next))
+}
+
+fn all_roles() -> impl Iterator<Item = [u32; 3]> {
+    (0..27).map(|k| [k % 3, k / 3 % 3, k / 9])
+}
+
+#[test]
+fn each_outcome_under_each_role() {
+    for roles in all_roles() {
+        let words = outcomes(roles);
+        for room in [128, 300, 1 << 16] {
+            let (mut text, mut line) = (String::new(), 0);
+            while line < 3 + LINES {
+                let (part, next) = piece(3, &words, line, room).expect("written");
+                assert!(next > line, "{roles:?}: from line {line} on {next}");
+                text += &part;
+                line = next;
+            }
+            assert_eq!(line, 3 + LINES);
+            assert_eq!(text, ABOVE.concat() + &role_lines(roles).concat() + BELOW, "{roles:?}");
+        }
+    }
+}
+
+#[test]
+fn each_role_has_a_line() {
+    for roles in all_roles() {
+        let words = outcomes(roles);
+        let lines: Vec<String> = ABOVE.map(String::from).into_iter().chain(role_lines(roles)).collect();
+        for (line, text) in lines.iter().enumerate() {
+            assert_eq!(piece(3, &words, line, 128), Ok((text.clone(), line + 1)));
+            // The next line stands behind it where 128 bytes are left.
+            let (next, room) = (lines.get(line + 1), 128 + text.len());
+            assert_eq!(piece(3, &words, line, room - 1), Ok((text.clone(), line + 1)));
+            if let Some(next) = next {
+                assert_eq!(piece(3, &words, line, room), Ok((format!("{text}{next}"), line + 2)));
+            }
+        }
+        let behind = piece(3, &words, 7, 1 << 16);
+        assert_eq!(behind, Ok((BELOW.to_string(), 3 + LINES)));
+    }
+    // Without a pass they stand behind the first line.
+    let none = "(result 1)\n(role plant 0 0 0 0)\n(role depot 0 0 0 0)\n(role dealer 0 0 0 0)\n";
+    assert_eq!(piece(0, &[], 0, 1 << 16), Ok((none.to_string() + BELOW, LINES)));
+    assert_eq!(piece(0, &[], 2, 128), Ok(("(role depot 0 0 0 0)\n".to_string(), 3)));
+}
+
+#[test]
+fn the_largest_sums() {
+    let grow = [0, 1 << 20, 1 << 20, 1 << 20, 1 << 20, 0, 0, 0, 0, 0, 0, 2];
+    let (text, next) = piece(16, &grow.repeat(16), 17, 1 << 16).expect("written");
+    let sums = "(role plant 0 0 0 0)\n(role depot 0 0 0 0)\n(role dealer 16777216 16777216 16777216 16777216)\n";
+    assert_eq!((text, next), (sums.to_string() + BELOW, 16 + LINES));
+}
+
+#[test]
+fn words_and_lines_that_are_refused() {
+    for (k, role) in (0..3).flat_map(|k| [3, 4, 255, u32::MAX].map(|role| (k, role))) {
+        let mut words = outcomes([0, 1, 2]);
+        words[OUTCOME_WORDS * k + ROLE_WORD] = role;
+        assert_eq!(piece(3, &words, 0, 128), Err(Refusal::OutOfRange));
+        assert_eq!(piece(3, &words, 0, 127), Err(Refusal::BufferTooShort));
+        assert_eq!(piece(3, &words[..35], 0, 128), Err(Refusal::BufferTooShort));
+        assert_eq!(piece(17, &words.repeat(6), 0, 128), Err(Refusal::OverLimit));
+        // That of a pass behind the last is not looked at.
+        assert!(piece(k, &words, 0, 128).is_ok());
+    }
+    let words = outcomes([0, 1, 2]);
+    assert_eq!(piece(3, &words[..35], 0, 128), Err(Refusal::BufferTooShort));
+    assert_eq!(piece(3, &words, 3 + LINES, 128), Ok((String::new(), 3 + LINES)));
+    assert_eq!(piece(3, &words, 3 + LINES + 1, 128), Err(Refusal::OutOfRange));
+    assert_eq!(LINES, 49_156);
 }
