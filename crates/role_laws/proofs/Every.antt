@@ -28,7 +28,7 @@ use Rattle.frame_laws.specs.Calls.{frame_corners, call_of, calls_of}
 use Rattle.frame_laws.proofs.Back.{frame_prints_back}
 use Rattle.report_line.specs.Result.{pass_lines, role_line, line_of_role, role_lines, heading, sheet_text, result_text}
 use Rattle.frame_answer.specs.Answer.{outcomes_of, frame_outcomes, frame_sheet, answer_of, answer_text}
-use Rattle.role_laws.specs.Every.{said_by, result_with, line_for, result_of, InEveryResult, all_zero, NoPassZeros, SumsBounded}
+use Rattle.role_laws.specs.Every.{said_by, result_with, result_of, InEveryResult, all_zero, NoPassZeros, SumsBounded}
 use Rattle.role_laws.proofs.Outcomes.{each_role}
 
 -- ---- "In every result"
@@ -36,9 +36,9 @@ use Rattle.role_laws.proofs.Outcomes.{each_role}
 lines_apart : (os : List RoledStats) (sheet : List ℕ) → result_text os sheet ≡ result_of os sheet
 unfolding result_text role_lines line_of_role
 lines_apart os sheet =
-    let plant = line_for Role.Plant os in
-    let depot = line_for Role.Depot os in
-    let dealer = line_for Role.Dealer os in
+    let plant = line_of_role os Role.Plant in
+    let depot = line_of_role os Role.Depot in
+    let dealer = line_of_role os Role.Dealer in
     ap (λ (l : List ℕ). heading ++ (pass_lines os ++ l))
     (append_assoc plant (depot ++ dealer) (sheet_text sheet) ∙ ap (λ (l : List ℕ). plant ++ l) (append_assoc depot dealer (sheet_text sheet)))
 
@@ -65,7 +65,7 @@ unfolding role_line printed number_text integer_text decimal decimal_up_to
 zero_dealer = refl
 
 no_pass_result : (sheet : List ℕ) → result_of [] sheet ≡ all_zero sheet
-unfolding pass_lines sum_for
+unfolding pass_lines sum_for line_of_role
 no_pass_result sheet = λ t. result_with [] (zero_plant t) (zero_depot t) (zero_dealer t) (sheet_text sheet)
 
 module _ (f : Frame) (none : (parts_of f).passes ≡ []) where

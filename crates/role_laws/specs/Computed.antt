@@ -16,7 +16,10 @@ six_passes =
     record { role = Role.Dealer; stats = PassStats.Grow (record { counts = counts 1 2 3 4; rim = false }) }
     ∷ record { role = Role.Plant; stats = PassStats.Fill (record { added = 5; iterations = 7; rim = true }) }
     ∷ record { role = Role.Depot; stats = PassStats.Grow (record { counts = counts 6 0 8 9; rim = false }) }
-    ∷ record { role = Role.Plant; stats = PassStats.Local (record { counts = counts 10 20 30 40; iterations = 3; residual = None; rim = false; unmatched = Some 50 }) }
+    ∷ record {
+      role = Role.Plant;
+      stats = PassStats.Local (record { counts = counts 10 20 30 40; iterations = 3; residual = None; rim = false; unmatched = Some 50 });
+    }
     ∷ record { role = Role.Dealer; stats = PassStats.Fill (record { added = 60; iterations = 1; rim = false }) }
     ∷ record { role = Role.Dealer; stats = PassStats.Grow (record { counts = counts 100 200 300 400; rim = false }) }
     ∷ []

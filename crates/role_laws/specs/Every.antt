@@ -13,7 +13,7 @@ use Rattle.frame.specs.Frame.{Frame, parts_of, refused_at, accepted, read_frame}
 use Rattle.frame.specs.ReadFrame.{sheet_of}
 use Rattle.frame_laws.specs.Calls.{frame_corners, calls_of}
 use Rattle.report_line.specs.Refused.{refused_text}
-use Rattle.report_line.specs.Result.{pass_lines, role_line, heading, sheet_text}
+use Rattle.report_line.specs.Result.{pass_lines, line_of_role, heading, sheet_text}
 use Rattle.frame_answer.specs.Answer.{frame_outcomes, frame_sheet, answer_text}
 
 -- ---- the passes that are counted
@@ -40,13 +40,9 @@ EachRole = (text : List ℕ) (f : Frame) → read_frame text ≡ accepted f → 
 abbrev pub result_with : List ℕ → List ℕ → List ℕ → List ℕ → List ℕ → List ℕ
 result_with passes plant depot dealer sheet = heading ++ (passes ++ (plant ++ (depot ++ (dealer ++ sheet))))
 
--- the line of a role: "each the sum over the passes run under it"
-abbrev pub line_for : Role → List RoledStats → List ℕ
-line_for r os = role_line r (sum_for r os)
-
--- a result of these outcomes and this sheet
+-- a result of these outcomes and this sheet; the line of a role has the sums over the passes run under it
 abbrev pub result_of : List RoledStats → List ℕ → List ℕ
-result_of os sheet = result_with (pass_lines os) (line_for Role.Plant os) (line_for Role.Depot os) (line_for Role.Dealer os) (sheet_text sheet)
+result_of os sheet = result_with (pass_lines os) (line_of_role os Role.Plant) (line_of_role os Role.Depot) (line_of_role os Role.Dealer) (sheet_text sheet)
 
 -- "In every result, after the last pass line, with its unmatched line, and before the cells, print `(role name attached none ambiguous edge)` for
 -- plant, depot, dealer"; a refused text's answer is `(refused number line)` alone, with no such line
