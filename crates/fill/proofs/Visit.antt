@@ -129,15 +129,18 @@ module _ (f : Filling) where
   untouched e = rw e (record { same = same_own f; sheet_is = refl; list_is = sym (over_own f.attached.now f.made made_in); made_is = sym made_length })
 
 module _ {f : Filling} {c : Cell} {k : ℕ} (t : Taking f c k) where
+  pub taking_fits : k < 1024
+  taking_fits = omega (arith, t.there, f.corners.now.count.few)
+
   taking_attaching : Attaching f.sheet.now c k
-  taking_attaching = record { long = f.given.long; on = t.trying.on; bare = t.trying.bare; corner_fits = omega (arith, t.there, f.corners.now.count.few) }
+  taking_attaching = record { long = f.given.long; on = t.trying.on; bare = t.trying.bare; corner_fits = omega (arith, taking_fits) }
 
   -- there is a place left in the list
   pub taking_room : f.made < length f.attached.now
   taking_room = omega (arith, f.room, f.list_long, labels_fewer f.given f.one_cell taking_attaching t.there t.free)
 
   pub given_more : Given f.corners.now.count.number (attached f.sheet.now c k)
-  given_more = given_attached f.given c t.trying.on k t.there (omega (arith, t.there, f.corners.now.count.few))
+  given_more = given_attached f.given c t.trying.on k t.there (omega (arith, taking_fits))
 
   pub one_more : OneCell (attached f.sheet.now c k)
   one_more = one_attached taking_attaching t.free f.one_cell
@@ -146,7 +149,7 @@ module _ {f : Filling} {c : Cell} {k : ℕ} (t : Taking f c k) where
   box_more = ap (λ (b : Option Bounds). widened b c) f.around_is ∙ sym (box_attached taking_attaching)
 
   pub tied_more : Tied (attached f.sheet.now c k) (set f.used k true)
-  tied_more = tied_attached taking_attaching (omega (arith, t.there, f.corners.now.count.few)) f.tied
+  tied_more = tied_attached taking_attaching taking_fits f.tied
 
   pub room_more : f.made + 1 ≤ label_count (attached f.sheet.now c k)
   room_more = omega (arith, f.room, count_attached taking_attaching)
