@@ -23,6 +23,21 @@ finite_said nan = refl
 finite_said (inf s) = refl
 finite_said (fin s m e) = refl
 
+-- what lies between the infinities is finite
+pub below_top : (x : Float) → lt (inf true) x ≡ true → lt x (inf false) ≡ is_finite x
+unfolding lt is_finite
+below_top nan h = refl
+below_top (inf true) h = absurd (true≢false (sym h))
+below_top (inf false) h = refl
+below_top (fin s m e) h = refl
+
+pub not_above_bottom : (x : Float) → lt (inf true) x ≡ false → false ≡ is_finite x
+unfolding lt is_finite
+not_above_bottom nan h = refl
+not_above_bottom (inf true) h = refl
+not_above_bottom (inf false) h = absurd (true≢false h)
+not_above_bottom (fin s m e) h = absurd (true≢false h)
+
 -- ---- by the pattern
 
 pub finite_bits : (b : ℕ) → b % 0x8000_0000 < 0x7f80_0000 → is_finite (of_bits binary32 b) ≡ true
