@@ -1,6 +1,6 @@
 -- Eight equations in eight unknowns, solved as document 01, "Fit", has it: the largest pivot, elimination, back substitution.
 -- Each value that a step gives is named, so that "a non-finite value at any step" can be said of all of them. Definitions only.
-use Rattle.std.specs.Prelude.{Bool, cond, ◌&&◌, not, List, [], ◌∷◌, ◌++◌, ℕ, zero, suc, ◌+◌, ◌-◌, get_or, eqb, ltb, Option, Some, None, Float}
+use Rattle.std.specs.Prelude.{Bool, cond, ◌&&◌, not, List, [], ◌∷◌, ◌++◌, ℕ, zero, suc, ◌+◌, ◌-◌, get_or, eqb, ltb, Result, Ok, Err, Float}
 use Rattle.std.specs.Float.{nan}
 use Rattle.std.specs.Float.Ieee.{neg, lt, eq}
 use Rattle.binary32.specs.Ranges.{is_finite, all_finite}
@@ -141,9 +141,9 @@ answers_of m = answered 8 (eliminated 8 m)
 unfoldable pub sound_of : Matrix → Bool
 sound_of m = no_zero_pivot m && (all_finite (values m) && all_finite (solve_steps m))
 
--- so the answers, where they count
-abbrev pub solved : Matrix → Option Row
-solved m = cond (sound_of m) (Some (answers_of m)) None
+-- so the answers: `Err` holds those that do not count
+abbrev pub solved : Matrix → Result Row Row
+solved m = cond (sound_of m) (Ok (answers_of m)) (Err (answers_of m))
 
 -- ---- what is looked at to find out whether the answers count, once the work is done
 

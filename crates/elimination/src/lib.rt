@@ -159,12 +159,13 @@ fn counts(m: &[[f32; 9]; 8], b: &[f32; 8]) -> bool
     diagonal_nonzero(m) && all_finite(m) && values_finite(b)
 }
 
-// The answers of eight equations, which count where no pivot is zero and no value, given or of a step, is non-finite.
-pub fn solve(a: [[f32; 9]; 8]) -> Option<[f32; 8]>
+// The answers of eight equations, which count where no pivot is zero and no value, given or of a step, is non-finite. `Err` holds those
+// that do not count.
+pub fn solve(a: [[f32; 9]; 8]) -> Result<[f32; 8], [f32; 8]>
     ensures { result ≡ solved a }
 {
     let mut m = a;
     eliminate(&mut m);
     let x = substitute(&m);
-    counts(&m, &x).then_some(x)
+    if counts(&m, &x) { Ok(x) } else { Err(x) }
 }

@@ -4,8 +4,9 @@ use mathlib.Core.Bool.{Bool, true, false, cond, ◌&&◌, not, true≢false}
 use mathlib.Core.List.{List, ◌++◌}
 use Prim.Native.Nat.{ℕ}
 use lib.ListN.{get_or}
-use Rattle.std.specs.Prelude.{Option, Some, None}
+use Rattle.std.specs.Prelude.{Option, Some, None, Result, Ok, Err}
 use Rattle.std.specs.Bool.{then_some}
+use Rattle.std.specs.Result.{result_ok}
 use lib.Ieee.{Float, nan, binary32}
 use Rattle.binary32.specs.Ranges.{is_finite, all_finite}
 use Rattle.elimination.specs.Rounded.{◌⊘◌}
@@ -125,38 +126,42 @@ module _ (cells corners : List Position) where
 
 -- ---- as the code leaves it: s and t the normalisations, m the equations, x their answers, k the matrix undone, r the answer
 
--- what is there under a test, and what is not
+-- what counts under a test, and what does not
 module _ {A : Type 0} where
-  there : (t : Bool) (x : A) {y : A} → cond t (Some x) None ≡ Some y → (t ≡ true) × (x ≡ y)
+  there : (t : Bool) (x : A) {y : A} → result_ok (cond t (Ok x) (Err x)) ≡ Some y → (t ≡ true) × (x ≡ y)
   there true x e = (refl, cc)
   there false x e = absurd (let z : true ≡ false = cc in true≢false z)
 
-  absent : (t : Bool) (x : A) → cond t (Some x) None ≡ None → t ≡ false
+  absent : (t : Bool) (x : A) → result_ok (cond t (Ok x) (Err x)) ≡ None → t ≡ false
   absent true x e = let z : true ≡ false = cc in z
   absent false x e = refl
 
+  -- as a call's answer r has it
+  pub answered_by : {r q : Result A A} {o : Option A} → r ≡ q → o ≡ result_ok r → result_ok q ≡ o
+  answered_by e h = sym (h ∙ ap result_ok e)
+
 module _ (cells corners : List Position) where
-  pub fit_first : normalized_of cells ≡ None → None ≡ homography_of cells corners
+  pub fit_first : result_ok (normalized_of cells) ≡ None → None ≡ homography_of cells corners
   fit_first e = rw (homography_is cells corners, absent (all_finite (normal_steps cells)) _ e)
 
-  module _ (s : Normalized) (es : normalized_of cells ≡ Some s) where
+  module _ (s : Normalized) (es : result_ok (normalized_of cells) ≡ Some s) where
     told_s : (all_finite (normal_steps cells) ≡ true) × (record { points = normalized cells; by = normalization_of cells } ≡ s)
     told_s = there (all_finite (normal_steps cells)) _ es
 
-    pub fit_second : normalized_of corners ≡ None → None ≡ homography_of cells corners
+    pub fit_second : result_ok (normalized_of corners) ≡ None → None ≡ homography_of cells corners
     fit_second e = rw (homography_is cells corners, told_s.0, absent (all_finite (normal_steps corners)) _ e)
 
-    module _ (t : Normalized) (et : normalized_of corners ≡ Some t) (m : Matrix) (em : m ≡ equations s.points t.points) where
+    module _ (t : Normalized) (et : result_ok (normalized_of corners) ≡ Some t) (m : Matrix) (em : m ≡ equations s.points t.points) where
       told_t : (all_finite (normal_steps corners) ≡ true) × (record { points = normalized corners; by = normalization_of corners } ≡ t)
       told_t = there (all_finite (normal_steps corners)) _ et
 
-      solution : solved m ≡ solved (equations_of cells corners)
-      solution = ap solved (em ∙ rw (← told_s.1, ← told_t.1))
+      solution : result_ok (solved m) ≡ result_ok (solved (equations_of cells corners))
+      solution = ap (λ (x : Matrix). result_ok (solved x)) (em ∙ rw (← told_s.1, ← told_t.1))
 
-      pub fit_third : solved m ≡ None → None ≡ homography_of cells corners
+      pub fit_third : result_ok (solved m) ≡ None → None ≡ homography_of cells corners
       fit_third e = rw (homography_is cells corners, told_s.0, told_t.0, absent (sound_of (equations_of cells corners)) _ (sym solution ∙ e))
 
-      pub fit_last : (x k : List Float) (r : Option (List Float)) → solved m ≡ Some x → k ≡ undone x s.by t.by → r ≡ scaled_of k → r ≡ homography_of cells corners
+      pub fit_last : (x k : List Float) (r : Option (List Float)) → result_ok (solved m) ≡ Some x → k ≡ undone x s.by t.by → r ≡ scaled_of k → r ≡ homography_of cells corners
       fit_last x k r ex ek e = e ∙ rw (homography_is cells corners, told_s.0, told_t.0, answered.0) (ap scaled_of (ek ∙ whole))
         where
           answered : (sound_of (equations_of cells corners) ≡ true) × (answers_of (equations_of cells corners) ≡ x)

@@ -5,8 +5,7 @@ use mathlib.Core.Bool.{Bool, true, false, cond, ◌&&◌, true≢false}
 use mathlib.Core.List.{List, [], ◌∷◌, ◌++◌}
 use Prim.Native.Nat.{ℕ, zero, suc, ◌<◌}
 use native.Mathlib.Omega.{arith}
-use Rattle.std.specs.Prelude.{Some, None, fold}
-use Rattle.std.specs.Bool.{then_some}
+use Rattle.std.specs.Prelude.{Ok, Err, fold}
 use lib.ListN.{length, get_or}
 use lib.Ieee.{Float, nan, inf, fin, binary32, neg, lt, of_bits, to_bits}
 use Rattle.binary32.specs.Ranges.{is_finite, all_finite}
@@ -250,15 +249,11 @@ module _ (ps : List Position) {cx cy d s : Float} {xs ys ds m : List Float} {qs 
   ok_is : ok ≡ all_finite (normal_steps ps)
   ok_is = eok ∙ rw (mean_is, points_are) (normal_finite ps)
 
-  pub normalized_some : ok ≡ true → Some (record { points = qs; by = record { scale = s; cx = cx; cy = cy } }) ≡ normalized_of ps
-  normalized_some e = rw (← ok_is, e, points_are, by_is)
+  pub normalized_is : cond ok (Ok (record { points = qs; by = record { scale = s; cx = cx; cy = cy } })) (Err (record { points = qs; by = record { scale = s; cx = cx; cy = cy } })) ≡ normalized_of ps
+  normalized_is = rw (← ok_is, points_are, by_is)
 
-  pub normalized_none : ok ≡ false → None ≡ normalized_of ps
-  normalized_none e = rw (← ok_is, e)
+  pub normalized_ok : ok ≡ true → Ok (record { points = qs; by = record { scale = s; cx = cx; cy = cy } }) ≡ normalized_of ps
+  normalized_ok e = rw (← normalized_is, e)
 
-  pub normalized_is : then_some ok (record { points = qs; by = record { scale = s; cx = cx; cy = cy } }) ≡ normalized_of ps
-  normalized_is = go ok refl
-    where
-      go : (t : Bool) → ok ≡ t → then_some t (record { points = qs; by = record { scale = s; cx = cx; cy = cy } }) ≡ normalized_of ps
-      go true e = normalized_some e
-      go false e = normalized_none e
+  pub normalized_err : ok ≡ false → Err (record { points = qs; by = record { scale = s; cx = cx; cy = cy } }) ≡ normalized_of ps
+  normalized_err e = rw (← normalized_is, e)

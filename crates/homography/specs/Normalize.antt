@@ -1,6 +1,6 @@
 -- "Both point sets are normalised in the order of `normalize_points4`, matrix rows summed left to right" (document 01, "Fit").
 -- Each value that a step gives is named beside what it is a step of. Definitions only.
-use Rattle.std.specs.Prelude.{Bool, cond, List, [], ◌∷◌, ◌++◌, ℕ, ◌+◌, ◌*◌, get_or, Option, Some, None, Float}
+use Rattle.std.specs.Prelude.{Bool, cond, List, [], ◌∷◌, ◌++◌, ℕ, ◌+◌, ◌*◌, get_or, Result, Ok, Err, Float}
 use Rattle.std.specs.Float.{nan, binary32}
 use Rattle.std.specs.Float.Ieee.{neg, lt, of_bits}
 use Rattle.binary32.specs.Ranges.{all_finite}
@@ -135,9 +135,11 @@ points_steps ps = concatenated 4 (λ i. moved_steps (forward (normalization_of p
 unfoldable pub normal_steps : List Position → List Float
 normal_steps ps = centre_steps ps ++ spread_steps ps ++ matrix_steps ps ++ points_steps ps
 
--- the points and what they are normalised by, where the value of every step is finite
-abbrev pub normalized_of : List Position → Option Normalized
-normalized_of ps = cond (all_finite (normal_steps ps)) (Some (record { points = normalized ps; by = normalization_of ps })) None
+-- the points and what they are normalised by: `Err` holds those of which a step's value is not finite
+abbrev pub normalized_of : List Position → Result Normalized Normalized
+normalized_of ps =
+    let n : Normalized = record { points = normalized ps; by = normalization_of ps } in
+    cond (all_finite (normal_steps ps)) (Ok n) (Err n)
 
 -- ---- what is looked at once the work is done: whether both numbers of each point are finite
 

@@ -93,9 +93,9 @@ fn steps_finite(mean_dist: f32, points: [Position; 4]) -> bool
     binary32::ranges::is_finite(mean_dist) && points_finite(points)
 }
 
-// Four points normalised by their centre and their mean distance from it, in the order of the Rust's function of this name: none where
-// the value of a step is not finite.
-pub fn normalize_points4(pts: [Position; 4]) -> Option<Normalized>
+// Four points normalised by their centre and their mean distance from it, in the order of the Rust's function of this name. `Err` holds
+// those that do not count, since the value of a step is not finite.
+pub fn normalize_points4(pts: [Position; 4]) -> Result<Normalized, Normalized>
     ensures { result ≡ normalized_of pts }
 {
     let cx = mean4(pts.map(|p| p.x));
@@ -106,7 +106,12 @@ pub fn normalize_points4(pts: [Position; 4]) -> Option<Normalized>
     let by = Normalization { scale, cx, cy };
     let t = forward(by);
     let points = pts.map(|p| moved(t, p));
-    steps_finite(mean_dist, points).then_some(Normalized { points, by })
+    let normalized = Normalized { points, by };
+    if steps_finite(mean_dist, points) {
+        Ok(normalized)
+    } else {
+        Err(normalized)
+    }
 }
 
 // One of the eight equations: the first of two of a point p that goes to q where i is even, else the second.
@@ -207,9 +212,9 @@ pub fn scaled(h: [f32; 9]) -> Option<[f32; 9]>
 pub fn homography_from_4pt(cells: [Position; 4], corners: [Position; 4]) -> Option<[f32; 9]>
     ensures { result ≡ homography_of cells corners }
 {
-    let s = normalize_points4(cells)?;
-    let t = normalize_points4(corners)?;
-    let x = elimination::solve(equations(s.points, t.points))?;
+    let s = normalize_points4(cells).ok()?;
+    let t = normalize_points4(corners).ok()?;
+    let x = elimination::solve(equations(s.points, t.points)).ok()?;
     scaled(undo(x, s.by, t.by))
 }
 

@@ -1,7 +1,9 @@
 -- `elimination::solve` meets its contract. Assumes nothing.
-use mathlib.Core.Path.{◌∙◌}
-use Rattle.elimination.proofs.Sound.{solved_by_count}
+use Rattle.elimination.proofs.Sound.{solved_ok, solved_err}
 use Rattle.elimination.proofs.solve.Goals as goal
 
-pub returns : goal.returns
-returns c = c.then_some.ensures ∙ solved_by_count _ _ _ _ c.eliminate.ensures c.substitute-x.ensures c.counts.ensures
+pub returns-then-counts : goal.returns-then-counts
+returns-then-counts c = solved_ok _ _ _ _ c.eliminate.ensures c.substitute-x.ensures c.counts.ensures c.if-counts.true
+
+pub returns-else-counts : goal.returns-else-counts
+returns-else-counts c = solved_err _ _ _ _ c.eliminate.ensures c.substitute-x.ensures c.counts.ensures c.if-counts.false
