@@ -64,6 +64,9 @@ blank_late passes sheet k h = rw (lt-leb k (passes + 3) h)
 
 -- ---- the lines of a row
 
+pub no_lines : (passes : ℕ) (sheet : List ℕ) (k : ℕ) → BlankLines passes sheet k 0
+no_lines passes sheet k = record { blank = λ a p q. absurd (omega arith) }
+
 -- the places from that of line k on, which is line m of the sheet, up to the end of its row
 pub lines_of : (passes : ℕ) (sheet : List ℕ) (k m n : ℕ) → k ≡ suc (passes + (3 + m))
     → BlankPlaces sheet (m % 16384) n → BlankLines passes sheet k n
