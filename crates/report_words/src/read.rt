@@ -1,5 +1,5 @@
 // Outcomes read from their words.
-ghost use Rattle.std.specs.Prelude.{◌≡◌, ◌<◌};
+ghost use Rattle.std.specs.Prelude.{◌≡◌, ◌+◌, ◌*◌, ◌<◌, length};
 ghost use Rattle.sizes.specs.Sizes.{outcome_size};
 ghost use Rattle.role_counts.specs.RoleCounts.{counts_of};
 ghost use Rattle.report_words.specs.Outcomes.{word_at, counts_at, yes_at, residual_at, unmatched_at, role_at, stats_at};
@@ -9,6 +9,22 @@ use passes::{Counts, FillStats, GrowStats, LocalStats, PassStats};
 use role_counts::RoleCounts;
 use roles::Role;
 use sizes::OUTCOME_WORDS;
+
+// Word m of outcome k, whether or not the outcome's other words are there.
+pub fn word_at(words: &[u32], k: usize, m: usize) -> u32
+    requires { outcome_size * k + m < length words.now }
+    ensures { result ≡ word_at words.now k m }
+{
+    words[OUTCOME_WORDS * k + m]
+}
+
+// Whether word m of outcome k says yes.
+pub fn yes_at(words: &[u32], k: usize, m: usize) -> bool
+    requires { outcome_size * k + m < length words.now }
+    ensures { result ≡ yes_at words.now k m }
+{
+    word_at(words, k, m) != 0
+}
 
 // Outcome k among the words of outcomes, whose twelve are there.
 // Stays: the words are those of the C interface: the kind is a number, and a flag stands beside its value (a).
@@ -25,7 +41,7 @@ impl Outcome<'_> {
         requires { m < outcome_size }
         ensures { result ≡ word_at self.now.words.now self.now.k m }
     {
-        self.words[OUTCOME_WORDS * self.k + m]
+        word_at(self.words, self.k, m)
     }
 
     // Word m as a count.
@@ -42,7 +58,7 @@ impl Outcome<'_> {
         requires { m < outcome_size }
         ensures { result ≡ yes_at self.now.words.now self.now.k m }
     {
-        self.word_at(m) != 0
+        yes_at(self.words, self.k, m)
     }
 
     // The four counts.
