@@ -6,8 +6,9 @@ ghost use Rattle.std.specs.Prelude.{◌≡◌, ◌<◌, ◌≤◌};
 ghost use Rattle.sizes.specs.Sizes.{corner_limit};
 ghost use Rattle.frame_line.specs.Table.{sort_of};
 ghost use Rattle.frame_line.specs.Checks.{wild_bits};
-ghost use Rattle.frame_line.specs.Held.{count_in, cell_in, label_in, shade_in, beyond, refusal_in, number_or_0, outside_held};
-ghost use Rattle.frame_number.specs.Numbers.{with_number};
+ghost use Rattle.labels.specs.Labelled.{any_below};
+ghost use Rattle.frame_line.specs.Held.{count_in, cell_in, label_in, shade_in, beyond, refusal_in, refusals_in, is_refusal, number_or_0, outside_held};
+ghost use Rattle.frame_number.specs.Numbers.{numbers_of, with_number};
 
 use binary32::ranges::Quantity;
 use frame_line::{HeldLabel, HeldShade, ListedLine, Sort};
@@ -87,9 +88,10 @@ fn refusal_of(corners: u32, letter: u8, word: u32) -> Option<Refusal>
     }
 }
 
-// Which refusals some number of a line has.
+// The refusals of a line's numbers: that of each, in their order, and which of them some number has.
 #[derive(Clone, Copy, Default)]
 pub struct NumberRefusals {
+    pub each: [Option<Refusal>; 5],
     pub malformed: bool,
     pub out_of_range: bool,
     pub off_sheet: bool,
@@ -97,6 +99,22 @@ pub struct NumberRefusals {
 }
 
 impl NumberRefusals {
+    // Of the refusal of each: which of them some number has.
+    pub fn of(each: [Option<Refusal>; 5]) -> NumberRefusals
+        ensures same { result.each ≡ each }
+        ensures malformed { result.malformed ≡ any_below 5 (is_refusal (numbers_of each) 1) }
+        ensures out_of_range { result.out_of_range ≡ any_below 5 (is_refusal (numbers_of each) 3) }
+        ensures off_sheet { result.off_sheet ≡ any_below 5 (is_refusal (numbers_of each) 4) }
+        ensures unknown_corner { result.unknown_corner ≡ any_below 5 (is_refusal (numbers_of each) 5) }
+    {
+        let none = NumberRefusals {
+            each,
+            ..NumberRefusals::default()
+        };
+        each.iter()
+            .fold(none, |found, refusal| found.with(*refusal))
+    }
+
     // One number's refusal more, if it has one.
     fn with(self, refusal: Option<Refusal>) -> NumberRefusals
         ensures { result ≡ with_number self (number_or_0 refusal) }
@@ -126,16 +144,20 @@ impl NumberRefusals {
 // The refusals of a line's numbers, by the letters of its row.
 pub fn refusals_of(corners: u32, line: ListedLine) -> NumberRefusals
     requires { corners ≤ corner_limit }
+    ensures each { numbers_of result.each ≡ refusals_in corners line.held }
     ensures malformed { result.malformed ≡ outside_held 1 corners line.held }
     ensures out_of_range { result.out_of_range ≡ outside_held 3 corners line.held }
     ensures off_sheet { result.off_sheet ≡ outside_held 4 corners line.held }
     ensures unknown_corner { result.unknown_corner ≡ outside_held 5 corners line.held }
 {
     let letters = line.letters();
-    letters.iter().zip(&line.held.values).fold(
-        NumberRefusals::default(),
-        |found, (letter, word)| found.with(refusal_of(corners, *letter, *word)),
-    )
+    let words = line.held.values;
+    let each = std::array::from_fn(
+        |m|
+            requires { m < 5 × corners ≤ corner_limit }
+        { refusal_of(corners, letters[m], words[m]) },
+    );
+    NumberRefusals::of(each)
 }
 
 // The count that a word holds: OFFSET less, or OFFSET where that is below 0.
