@@ -1,7 +1,7 @@
 -- Laws of the queue as the code holds it: a place queued, a cell taken; the four neighbours, one after the other; the seeds, a place at a
 -- time. Assumes nothing.
 use mathlib.Core.Path.{◌≡◌, refl, sym, ap, ◌∙◌, subst}
-use mathlib.Core.Bool.{Bool, true, false, not, ◌&&◌, ◌||◌}
+use mathlib.Core.Bool.{Bool, true, false, cond, not, ◌&&◌, ◌||◌}
 use mathlib.Core.List.{List, [], ◌∷◌, ◌++◌, map}
 use Rattle.std.specs.List.{filter}
 use Rattle.std.proofs.lemmas.List.{length-map, map-append}
@@ -10,11 +10,11 @@ use Prim.Native.Nat.{ℕ, ◌+◌, ◌*◌, ◌<◌, ◌≤◌}
 use native.Mathlib.Decide.{ℕ_discrete}
 use native.Mathlib.Numerals.{add-one}
 use native.Mathlib.Omega.{arith}
-use borrow.Author.Tests.{eq-eqb, ne_eqb, not-true}
+use borrow.Author.Tests.{eq-eqb, ne_eqb}
 use lib.Dec.{T, eqb}
 use lib.IntN.{pos}
 use lib.ListN.{length, get_or, drop, set, length-set, length-append}
-use lib.Seq.{get_or-set_same, get_or-set_other, take-suc-set, drop-cons, length-take-le}
+use lib.Seq.{get_or-set_same, get_or-set_other, drop-cons, length-take-le}
 use Rattle.sheet.specs.Cells.{on_sheet, OnSheet, place_of, cell_of, moved}
 use Rattle.sheet.specs.Words.{label_at}
 use Rattle.sheet.specs.declared.Cell.{Cell}
@@ -26,10 +26,10 @@ use Rattle.labels.proofs.Below.{both}
 use Rattle.labels.proofs.Labelled.{labels_walked}
 use Rattle.positions_policy.specs.Edge.{cardinal_offsets, cardinal_at}
 use Rattle.passes.specs.Grow.{member, wanted, enqueued, enqueued_at, spread, seeded_from}
-use Rattle.passes.proofs.Over.{over_length, over_read, over_own, over_over}
+use Rattle.passes.proofs.Over.{over_length, over_read, over_own, over_put, over_over}
 use Rattle.passes.proofs.Queue.{member_more, last_at, older_at, enqueued_longer, seeded_longer, spread_longer}
 use Rattle.arguments.specs.Front.{over}
-use Rattle.grow_queue.specs.Places.{so_far, Flagged, OnPlaces}
+use Rattle.grow_queue.specs.Places.{so_far, Flagged, OnPlaces, PlacesRoom, PlacesHeld}
 use Rattle.grow_queue.specs.Queue.{queued, Room, QueueHeld, seeded, Unqueued}
 use Rattle.grow_queue.specs.declared.Queue.{Queue}
 
@@ -49,14 +49,22 @@ on_places_more {cells} o p h = record { below = λ i l. go i l (ℕ_discrete i (
     go i l (yes d) = rw (d, last_at cells p) h
     go i l (no d) = let k : i < length cells = omega (arith, length-append cells (p ∷ [])) in rw (older_at cells p i k) (o.below i k)
 
-pub so_far_more : (queue : List ℕ) (n p : ℕ) → n < length queue → so_far (set queue n p) (n + 1) ≡ so_far queue n ++ (p ∷ [])
-so_far_more queue n p h = rw add-one (take-suc-set queue n p h)
+-- ---- what a lent buffer holds, one step after the other
 
-pub queued_length : (q : Queue) → length (queued q) ≡ q.tail
-queued_length q = length-take-le q.tail q.places.now q.within
+-- it is read back
+pub places_read : {queue after : List ℕ} {seen : List Bool} {r : ℕ} {cells : List ℕ} → PlacesHeld queue after seen r cells → so_far after r ≡ cells
+places_read {queue} {cells = cells} h = rw (h.written, h.count) (over_read cells queue)
 
-pub more_count : (q : Queue) (p : ℕ) → q.tail + 1 ≡ length (queued q ++ (p ∷ []))
-more_count q p = omega (arith, length-append (queued q) (p ∷ []), queued_length q)
+pub places_then : {q0 q1 : List ℕ} {s1 : List Bool} {t1 : ℕ} {l1 q2 : List ℕ} {s2 : List Bool} {t2 : ℕ} {l2 : List ℕ} → PlacesHeld q0 q1 s1 t1 l1 → PlacesHeld q1 q2 s2 t2 l2 → length l1 ≤ length l2 → PlacesHeld q0 q2 s2 t2 l2
+places_then {q0} {l1 = l1} {l2 = l2} a b h =
+    record { written = b.written ∙ ap (over l2) a.written ∙ over_over l1 l2 q0 h; count = b.count; flagged = b.flagged }
+
+pub places_length : {queue after : List ℕ} {seen : List Bool} {r : ℕ} {cells : List ℕ} → PlacesHeld queue after seen r cells → length cells ≤ length queue → length after ≡ length queue
+places_length {queue} {cells = cells} h l = rw h.written (over_length cells queue l)
+
+-- nothing done
+pub places_own : (queue : List ℕ) (seen : List Bool) (tail : ℕ) → tail ≤ length queue → Flagged (so_far queue tail) seen → PlacesHeld queue queue seen tail (so_far queue tail)
+places_own queue seen tail h f = record { written = sym (over_own queue tail h); count = sym (length-take-le tail queue h); flagged = f }
 
 -- ---- what a queue holds, one step after the other
 
@@ -77,41 +85,52 @@ holds_own q = record { same_buffer = refl; written = sym (over_own q.places.now 
 
 -- ---- a cell queued
 
-module _ (sheet : List ℕ) (q : Queue) (c : Cell) where
-  pub enqueued_not : wanted sheet (queued q) c ≡ false → QueueHeld q q (enqueued sheet c (queued q))
+module _ (sheet cells : List ℕ) (c : Cell) (w : wanted sheet cells c ≡ true) where
+  facts : (on_sheet c ≡ true) × ((not (names_corner (label_at sheet c)) && not (member (place_of c) cells)) ≡ true)
+  unfolding wanted
+  facts = both _ _ w
+
+  pub wanted_on : OnSheet c
+  wanted_on = subst T (sym facts.0) tt
+
+  pub wanted_below : {p : ℕ} → p ≡ place_of c → p < 16384
+  wanted_below is = rw is (place_in c wanted_on)
+
+module _ {sheet queue : List ℕ} {seen : List Bool} {tail : ℕ} (c : Cell) (w : PlacesRoom 1 sheet queue seen tail) where
+  upto : tail ≤ length queue
+  upto = omega (arith, w.room)
+
+  pub enqueued_not : wanted sheet (so_far queue tail) c ≡ false → PlacesHeld queue queue seen tail (enqueued sheet c (so_far queue tail))
   unfolding enqueued
-  enqueued_not e = rw e (holds_own q)
+  enqueued_not e = rw e (places_own queue seen tail upto w.flagged)
 
-  module _ (w : wanted sheet (queued q) c ≡ true) where
-    facts : (on_sheet c ≡ true) × ((not (names_corner (label_at sheet c)) && not (member (place_of c) (queued q))) ≡ true)
-    unfolding wanted
-    facts = both _ _ w
-
-    pub wanted_on : OnSheet c
-    wanted_on = subst T (sym facts.0) tt
-
-    pub wanted_new : member (place_of c) (queued q) ≡ false
-    wanted_new = not-true _ (both _ _ facts.1).1
-
-    pub enqueued_yes : {after : Queue} {p : ℕ} → p ≡ place_of c → QueueHeld q after (queued q ++ (p ∷ [])) → QueueHeld q after (enqueued sheet c (queued q))
-    unfolding enqueued
-    enqueued_yes e h = rw w (rw e at h)
+  pub enqueued_yes : wanted sheet (so_far queue tail) c ≡ true → {p : ℕ} → p ≡ place_of c → PlacesHeld queue (set queue tail p) (set seen p true) (tail + 1) (enqueued sheet c (so_far queue tail))
+  unfolding enqueued
+  enqueued_yes e {p} is =
+      let l : length (so_far queue tail) ≡ tail = length-take-le tail queue upto in
+      let below : p < 16384 = wanted_below sheet (so_far queue tail) c e is in
+      rw (e, ← is)
+      (record {
+        written = over_put queue tail p (omega (arith, w.room));
+        count = omega (arith, length-append (so_far queue tail) (p ∷ []));
+        flagged = flagged_more w.flagged p below;
+      })
 
 -- whether a cell on the sheet is wanted, by its place
-module _ (sheet : List ℕ) (q : Queue) (c : Cell) where
-  pub place_below : on_sheet c ≡ true → {p : ℕ} → p ≡ place_of c → p < 16384
-  place_below on is = rw is (place_in c (subst T (sym on) tt))
+pub place_below : (c : Cell) → on_sheet c ≡ true → {p : ℕ} → p ≡ place_of c → p < 16384
+place_below c on is = rw is (place_in c (subst T (sym on) tt))
 
-  pub off_unwanted : on_sheet c ≡ false → wanted sheet (queued q) c ≡ false
-  unfolding wanted
-  off_unwanted e = rw e
+pub off_unwanted : (sheet : List ℕ) (c : Cell) (cells : List ℕ) → on_sheet c ≡ false → wanted sheet cells c ≡ false
+unfolding wanted
+off_unwanted sheet c cells e = rw e
 
-  pub on_wanted : on_sheet c ≡ true → {p : ℕ} → p ≡ place_of c → {t : Bool} → is_labelled (get_or sheet p 0) ≡ t → (not t && not (get_or q.seen p false)) ≡ wanted sheet (queued q) c
-  unfolding wanted is_labelled
-  on_wanted on {p} is {t} e =
-      let here : OnSheet c = subst T (sym on) tt in
-      let label : names_corner (label_at sheet c) ≡ t = ap names_corner (label_on sheet c here) ∙ rw is at e in
-      rw (on, is, q.flagged.at (place_of c) (place_in c here), label)
+pub on_wanted : (sheet : List ℕ) (c : Cell) {cells : List ℕ} {seen : List Bool} → Flagged cells seen → on_sheet c ≡ true → {p : ℕ} → p ≡ place_of c → {t : Bool} → is_labelled (get_or sheet p 0) ≡ t
+    → (not t && not (get_or seen p false)) ≡ wanted sheet cells c
+unfolding wanted is_labelled
+on_wanted sheet c f on {p} is {t} e =
+    let here : OnSheet c = subst T (sym on) tt in
+    let label : names_corner (label_at sheet c) ≡ t = ap names_corner (label_on sheet c here) ∙ rw is at e in
+    rw (on, is, f.at (place_of c) (place_in c here), label)
 
 -- ---- the four neighbours
 
@@ -120,36 +139,38 @@ unfolding cardinal_offsets
 four k h = h
 
 -- before the k-th: what is queued so far, and that with the neighbours that are left it is what it shall be
-pub record Spreading (sheet : List ℕ) (c : Cell) (before after : Queue) (k : ℕ) : Type 0 where
+pub record Spreading (sheet : List ℕ) (c : Cell) (queue : List ℕ) (tail : ℕ) (after : List ℕ) (seen : List Bool) (end k : ℕ) : Type 0 where
   pub upto : k ≤ 4
   pub cells : List ℕ
-  pub holds : QueueHeld before after cells
-  pub more : before.tail ≤ after.tail
-  pub few : after.tail ≤ before.tail + k
-  pub rest : enqueued_at sheet c (drop k cardinal_offsets) cells ≡ spread sheet c (queued before)
+  pub holds : PlacesHeld queue after seen end cells
+  pub more : tail ≤ end
+  pub few : end ≤ tail + k
+  pub rest : enqueued_at sheet c (drop k cardinal_offsets) cells ≡ spread sheet c (so_far queue tail)
 
-module _ {sheet : List ℕ} (c : Cell) {q : Queue} (w : Room 4 sheet q) where
-  pub spreading_start : Spreading sheet c q q 0
+module _ {sheet : List ℕ} (c : Cell) {queue : List ℕ} {seen : List Bool} {tail : ℕ} (w : PlacesRoom 4 sheet queue seen tail) where
+  pub spreading_start : Spreading sheet c queue tail queue seen tail 0
   unfolding spread
-  spreading_start = record { upto = omega arith; cells = queued q; holds = holds_own q; more = omega arith; few = omega arith; rest = refl }
+  spreading_start =
+      record { upto = omega arith; cells = so_far queue tail; holds = places_own queue seen tail (omega (arith, w.room)) w.flagged; more = omega arith; few = omega arith; rest = refl }
 
-  module _ {after : Queue} {k : ℕ} (s : Spreading sheet c q after k) where
-    pub spreading_length : length after.places.now ≡ length q.places.now
-    spreading_length = holds_length s.holds (omega (arith, s.holds.count, s.few, s.upto, w.room))
+  module _ {after : List ℕ} {flags : List Bool} {end k : ℕ} (s : Spreading sheet c queue tail after flags end k) where
+    pub spreading_length : length after ≡ length queue
+    spreading_length = places_length s.holds (omega (arith, s.holds.count, s.few, s.upto, w.room))
 
-    pub spreading_room : k < 4 → Room 1 sheet after
-    spreading_room h = record { long = w.long; room = omega (arith, spreading_length, s.few, w.room) }
+    pub spreading_room : k < 4 → PlacesRoom 1 sheet after flags end
+    spreading_room h = record { long = w.long; room = omega (arith, spreading_length, s.few, w.room); flagged = rw (places_read s.holds) s.holds.flagged }
 
-    pub spreading_more : k < 4 → {d : Cell} {next : Queue} → d ≡ moved c (cardinal_at k) → QueueHeld after next (enqueued sheet d (queued after)) → Spreading sheet c q next (k + 1)
+    pub spreading_more : k < 4 → {d : Cell} {after' : List ℕ} {flags' : List Bool} {end' : ℕ} → d ≡ moved c (cardinal_at k) → PlacesHeld after after' flags' end' (enqueued sheet d (so_far after end))
+        → Spreading sheet c queue tail after' flags' end' (k + 1)
     unfolding enqueued_at
-    spreading_more h {next = next} e m =
+    spreading_more h {after' = after'} {flags' = flags'} {end' = end'} e m =
         let cells = enqueued sheet (moved c (cardinal_at k)) s.cells in
-        let a : QueueHeld after next cells = rw (e, holds_read s.holds) at m in
+        let a : PlacesHeld after after' flags' end' cells = rw (e, places_read s.holds) at m in
         let l = enqueued_longer sheet (moved c (cardinal_at k)) s.cells in
         record {
           upto = omega arith;
           cells = cells;
-          holds = holds_then s.holds a l.more;
+          holds = places_then s.holds a l.more;
           more = omega (arith, s.more, s.holds.count, a.count, l.more);
           few = omega (arith, s.few, s.holds.count, a.count, l.few);
           rest = sym (ap (λ (os : List Offset). enqueued_at sheet c os s.cells) (next_offsets h)) ∙ s.rest;
@@ -158,12 +179,52 @@ module _ {sheet : List ℕ} (c : Cell) {q : Queue} (w : Room 4 sheet q) where
         next_offsets : k < 4 → drop k cardinal_offsets ≡ cardinal_at k ∷ drop (k + 1) cardinal_offsets
         next_offsets h = drop-cons cardinal_offsets k (record { di = pos 0; dj = pos 0 }) (four k h) ∙ ap (λ (n : ℕ). cardinal_at k ∷ drop n cardinal_offsets) (sym (add-one k))
 
-    pub spreading_end : 4 ≤ k → QueueHeld q after (spread sheet c (queued q))
+    pub spreading_end : 4 ≤ k → PlacesHeld queue after flags end (spread sheet c (so_far queue tail))
     unfolding cardinal_offsets enqueued_at
     spreading_end h =
         let e : k ≡ 4 = omega (arith, s.upto) in
-        let r : s.cells ≡ spread sheet c (queued q) = rw e at s.rest in
-        subst (λ (l : List ℕ). QueueHeld q after l) r s.holds
+        let r : s.cells ≡ spread sheet c (so_far queue tail) = rw e at s.rest in
+        subst (λ (l : List ℕ). PlacesHeld queue after flags end l) r s.holds
+
+-- they are places of the sheet, where those before them are
+enqueued_on : (sheet : List ℕ) (c : Cell) (cells : List ℕ) → OnPlaces cells → OnPlaces (enqueued sheet c cells)
+unfolding enqueued
+enqueued_on sheet c cells o = go (wanted sheet cells c) (λ e. wanted_below sheet cells c e refl)
+  where
+    go : (t : Bool) → (t ≡ true → place_of c < 16384) → OnPlaces (cond t (cells ++ (place_of c ∷ [])) cells)
+    go true h = on_places_more o (place_of c) (h refl)
+    go false h = o
+
+at_on : (sheet : List ℕ) (c : Cell) (os : List Offset) (cells : List ℕ) → OnPlaces cells → OnPlaces (enqueued_at sheet c os cells)
+unfolding enqueued_at
+at_on sheet c [] cells o = o
+at_on sheet c (d ∷ os) cells o = at_on sheet c os (enqueued sheet (moved c d) cells) (enqueued_on sheet (moved c d) cells o)
+
+-- ---- the four neighbours in a queue's own buffer
+
+module _ {sheet : List ℕ} (q : Queue) (w : Room 4 sheet q) where
+  pub spread_room : PlacesRoom 4 sheet q.places.now q.seen q.tail
+  spread_room = record { long = w.long; room = w.room; flagged = q.flagged }
+
+  module _ (c : Cell) {after : List ℕ} {seen : List Bool} {tail : ℕ} (h : PlacesHeld q.places.now after seen tail (spread sheet c (so_far q.places.now q.tail))) where
+    before : length (queued q) ≡ q.tail
+    before = length-take-le q.tail q.places.now q.within
+
+    pub spread_within : tail ≤ length after
+    spread_within =
+        let l = spread_longer sheet c (queued q) in
+        let e : length after ≡ length q.places.now = places_length h (omega (arith, l.few, before, w.room)) in
+        omega (arith, e, h.count, l.few, before, w.room)
+
+    pub spread_upto : q.head ≤ tail
+    spread_upto = omega (arith, q.upto, h.count, before, (spread_longer sheet c (queued q)).more)
+
+    pub spread_flagged : Flagged (so_far after tail) seen
+    spread_flagged = rw (places_read h) h.flagged
+
+    pub spread_on : OnPlaces (so_far after tail)
+    unfolding spread
+    spread_on = rw (places_read h) (at_on sheet c cardinal_offsets (queued q) q.on_places)
 
 -- ---- the seeds
 

@@ -1,10 +1,10 @@
 -- Grow's queue as the code holds it: what is queued, what its functions ask, and what they leave. Definitions only.
-use Rattle.std.specs.Prelude.{◌≡◌, false, List, [], ℕ, ◌+◌, ◌*◌, ◌<◌, ◌≤◌, length, get_or, Option, None, Some}
+use Rattle.std.specs.Prelude.{◌≡◌, List, [], ℕ, ◌+◌, ◌*◌, ◌<◌, ◌≤◌, length, get_or, Option, None, Some}
 use Rattle.sizes.specs.Sizes.{place_count}
 use Rattle.sheet.specs.Cells.{cell_of}
 use Rattle.sheet.specs.declared.Cell.{Cell}
 use Rattle.labels.specs.Labelled.{labelled_places, label_count}
-use Rattle.passes.specs.Grow.{member, seeded_from}
+use Rattle.passes.specs.Grow.{seeded_from}
 use Rattle.arguments.specs.Front.{over}
 use Rattle.grow_queue.specs.Places.{so_far}
 use Rattle.grow_queue.specs.declared.Queue.{Queue}
@@ -18,12 +18,6 @@ pub record Empty (places : List ℕ) (q : Queue) : Type 0 where
   pub places_are : q.places.now ≡ places
   pub head_is : q.head ≡ 0
   pub tail_is : q.tail ≡ 0
-
--- a place of the sheet that was not queued before, and room for it
-pub record Fresh (place : ℕ) (q : Queue) : Type 0 where
-  pub room : q.tail < length q.places.now
-  pub below : place < place_count
-  pub new : member place (queued q) ≡ false
 
 -- room in the queue for n cells more
 pub record Room (n : ℕ) (sheet : List ℕ) (q : Queue) : Type 0 where

@@ -3,12 +3,69 @@
 
 #![tactic(auto)]
 
-ghost use Rattle.std.specs.Prelude.{◌≤◌, length};
-ghost use Rattle.grow_queue.specs.Places.{so_far, Flagged, OnPlaces};
+ghost use Rattle.std.specs.Prelude.{◌≡◌, List, ℕ, ◌≤◌, length};
+ghost use Rattle.sizes.specs.Sizes.{place_count};
+ghost use Rattle.sheet.specs.Cells.{OnSheet};
+ghost use Rattle.passes.specs.Grow.{wanted, enqueued, spread};
+ghost use Rattle.grow_queue.specs.Places.{so_far, Flagged, OnPlaces, PlacesRoom, PlacesHeld};
 
 use positions_policy::CARDINALS;
 use sheet::{Cell, Written};
 use sizes::PLACES;
+
+// Whether a cell is to be queued: it lies on the sheet, is unlabelled, and was not queued before.
+fn wants(sheet: &[u16], seen: &[bool; PLACES], c: Cell) -> bool
+    requires { place_count ≤ length sheet.now }
+    ensures { (cells : List ℕ) → Flagged cells seen.now → result ≡ wanted sheet.now cells c }
+{
+    sheet::on_sheet(c)
+        && {
+            let place = sheet::place_of(c);
+            !labels::is_labelled(sheet[place]) && !seen[place]
+        }
+}
+
+// Queues a cell behind the first `tail` places if it is to be queued. Returns the queue's new end.
+// Stays: as `enqueue_cardinal_neighbours` (a).
+fn enqueue(
+    sheet: &[u16],
+    queue: &mut [u16],
+    seen: &mut [bool; PLACES],
+    tail: usize,
+    c: Cell,
+) -> usize
+    requires { PlacesRoom 1 sheet.now queue.old seen.old tail }
+    ensures { PlacesHeld queue.old queue.new seen.new result (enqueued sheet.now c (so_far queue.old tail)) }
+{
+    if wants(sheet, seen, c) {
+        let place = sheet::place_of(c);
+        queue[tail] = place as u16;
+        seen[place] = true;
+        tail + 1
+    } else {
+        tail
+    }
+}
+
+// Queues the four cardinal neighbours of a cell, in the order +i, -i, +j, -j, behind the first `tail` places of a lent buffer, whatever numbers
+// these hold; `seen` says which places of the sheet they are. Returns the queue's new end.
+// Stays: the lent buffer may hold any numbers, where a `Queue` has places of the sheet alone, so that it would ask more (a).
+pub fn enqueue_cardinal_neighbours(
+    sheet: &[u16],
+    queue: &mut [u16],
+    seen: &mut [bool; PLACES],
+    tail: usize,
+    c: Cell,
+) -> usize
+    requires { PlacesRoom 4 sheet.now queue.old seen.old tail × OnSheet c }
+    ensures { PlacesHeld queue.old queue.new seen.new result (spread sheet.now c (so_far queue.old tail)) }
+{
+    let mut end = tail;
+    for offset in CARDINALS {
+        end = enqueue(sheet, queue, seen, end, sheet::neighbour(c, offset));
+    }
+    end
+}
 
 // The queue, in a lent buffer of places: its first `tail` places are the cells queued so far, and of these the first `head` are taken.
 // `seen` says which places those are.
@@ -25,11 +82,7 @@ pub struct Queue<'a> {
 }
 
 impl<'a> Queue<'a> {
-    ghost use Rattle.std.specs.Prelude.{◌≡◌, [], ◌∷◌, ◌++◌};
-    ghost use Rattle.sizes.specs.Sizes.{place_count};
-    ghost use Rattle.sheet.specs.Cells.{OnSheet};
-    ghost use Rattle.passes.specs.Grow.{wanted, enqueued, spread};
-    ghost use Rattle.grow_queue.specs.Queue.{queued, Empty, Fresh, Room, QueueHeld, Unqueued, seeded, Taken};
+    ghost use Rattle.grow_queue.specs.Queue.{queued, Empty, Room, QueueHeld, Unqueued, seeded, Taken};
 
     // A queue of no cell.
     pub fn new(places: &'a mut [u16]) -> Queue<'a>
@@ -44,16 +97,6 @@ impl<'a> Queue<'a> {
         }
     }
 
-    // Queues a place that was not queued before.
-    fn push(&mut self, place: usize)
-        requires { Fresh place self.old }
-        ensures { QueueHeld self.old self.new (queued self.old ++ place ∷ []) }
-    {
-        self.places[self.tail] = place as u16;
-        self.seen[place] = true;
-        self.tail += 1;
-    }
-
     // Takes the first cell that is not taken yet.
     pub fn pop(&mut self) -> Option<Cell>
         ensures { Taken self.old self.new result }
@@ -66,36 +109,12 @@ impl<'a> Queue<'a> {
         Some(sheet::cell_of(place))
     }
 
-    // Whether a cell is to be queued: it lies on the sheet, is unlabelled, and was not queued before.
-    fn wants(&self, sheet: &[u16], c: Cell) -> bool
-        requires { place_count ≤ length sheet.now }
-        ensures { result ≡ wanted sheet.now (queued self.now) c }
-    {
-        sheet::on_sheet(c)
-            && {
-                let place = sheet::place_of(c);
-                !labels::is_labelled(sheet[place]) && !self.seen[place]
-            }
-    }
-
-    // Queues a cell if it is to be queued.
-    fn enqueue(&mut self, sheet: &[u16], c: Cell)
-        requires { Room 1 sheet.now self.old }
-        ensures { QueueHeld self.old self.new (enqueued sheet.now c (queued self.old)) }
-    {
-        if self.wants(sheet, c) {
-            self.push(sheet::place_of(c));
-        }
-    }
-
     // Queues the four cardinal neighbours of a cell, in the order +i, -i, +j, -j.
     pub fn enqueue_cardinal_neighbours(&mut self, sheet: &[u16], c: Cell)
         requires { Room 4 sheet.now self.old × OnSheet c }
         ensures { QueueHeld self.old self.new (spread sheet.now c (queued self.old)) }
     {
-        for offset in CARDINALS {
-            self.enqueue(sheet, sheet::neighbour(c, offset));
-        }
+        self.tail = enqueue_cardinal_neighbours(sheet, self.places, &mut self.seen, self.tail, c);
     }
 
     // Queues the neighbours of all labelled cells, by i, then j.

@@ -1,20 +1,22 @@
--- `grow_queue::Queue::enqueue_cardinal_neighbours` meets its contract. Assumes nothing.
-use native.Mathlib.Omega.{arith}
-use Rattle.positions_policy.specs.Edge.{cardinal_offsets}
-use Rattle.positions_policy.proofs.Search.{cardinal_within}
-use Rattle.grow_queue.proofs.Laws.{spreading_start, spreading_more, spreading_end}
+-- `grow_queue::Queue::enqueue_cardinal_neighbours` meets its contract, by the function on the queue's own buffer. Assumes nothing.
+use mathlib.Core.Path.{refl}
+use Rattle.grow_queue.proofs.Laws.{spread_room, spread_within, spread_upto, spread_flagged, spread_on}
 use Rattle.grow_queue.proofs.Queue.enqueue_cardinal_neighbours.Goals as goal
 
-pub loop-offset-init : goal.loop-offset-init
-loop-offset-init c = spreading_start _ c.requires.0
+pub enqueue_cardinal_neighbours-self-requires : goal.enqueue_cardinal_neighbours-self-requires
+enqueue_cardinal_neighbours-self-requires c = (spread_room c.args.self.now c.requires.0, c.requires.1)
 
-pub neighbour-requires : goal.neighbour-requires
-unfolding cardinal_offsets
-neighbour-requires c = (c.requires.1, cardinal_within c.loop-offset.offset-index (omega arith))
+pub invariant_of-self-clause-within : goal.invariant_of-self-clause-within
+invariant_of-self-clause-within c = spread_within c.args.self.now c.requires.0 c.args.c c.enqueue_cardinal_neighbours-self.ensures
 
-pub loop-offset-preserved : goal.loop-offset-preserved
-unfolding cardinal_offsets
-loop-offset-preserved c = spreading_more _ c.requires.0 c.loop-offset.invariant (omega arith) c.neighbour.ensures c.enqueue.ensures
+pub invariant_of-self-clause-upto : goal.invariant_of-self-clause-upto
+invariant_of-self-clause-upto c = spread_upto c.args.self.now c.requires.0 c.args.c c.enqueue_cardinal_neighbours-self.ensures
+
+pub invariant_of-self-clause-flagged : goal.invariant_of-self-clause-flagged
+invariant_of-self-clause-flagged c = spread_flagged c.args.self.now c.requires.0 c.args.c c.enqueue_cardinal_neighbours-self.ensures
+
+pub invariant_of-self-clause-on_places : goal.invariant_of-self-clause-on_places
+invariant_of-self-clause-on_places c = spread_on c.args.self.now c.requires.0 c.args.c c.enqueue_cardinal_neighbours-self.ensures
 
 pub returns : goal.returns
-returns c = spreading_end _ c.requires.0 c.loop-offset.invariant (omega arith)
+returns c = record { same_buffer = refl; written = c.enqueue_cardinal_neighbours-self.ensures.written; count = c.enqueue_cardinal_neighbours-self.ensures.count; head_same = refl }
