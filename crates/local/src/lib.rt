@@ -168,6 +168,7 @@ fn local_accepted(
         let left = KeptBox::of(around.around());
         return (stats, left);
     }
+    let mut memory = Memory::new();
     let mut held = NO_CORNERS;
     corners.hold(&mut held);
     let setup = LocalSetup {
@@ -183,7 +184,7 @@ fn local_accepted(
         used,
         labelled,
         around: around.around(),
-        memory: Memory::new(),
+        memory: &mut memory,
         progress,
     };
     let rounds = local_rounds(&mut work);

@@ -76,7 +76,7 @@ module _ (set : Settings) (p : LocalExtensionParams) {cs : Corners} {sheet list 
         untouched (extending_as f refl refl refl (ap (λ (x : LocalProgress). x.counts.attached) same))
         (visit_none cs set p c (state_of sheet list work.progress) _ of (fit_none _ is e) ∙ ap (state_of sheet list) (sym same))
 
-    pub none_recalls : {work' : LocalWork} → work'.progress ≡ work.progress → Noted work.memory c (Some (record { reach = (nth near 3).reach; finding = Finding.Idle })) work'.memory → Recalls set p cs sheet work'
+    pub none_recalls : {work' : LocalWork} → work'.progress ≡ work.progress → Noted work.memory.now c (Some (record { reach = (nth near 3).reach; finding = Finding.Idle })) work'.memory.now → Recalls set p cs sheet work'
     none_recalls same n =
         record {
           remembered = rw same (noted r.remembered c on (made_none cs set p work.progress.residual sheet c near supports far (sym of ∙ fit_none _ is e)) n);
@@ -116,7 +116,7 @@ module _ (set : Settings) (p : LocalExtensionParams) {cs : Corners} {sheet list 
         above_left = untouched recorded (visit_gated cs set p c (state_of sheet list work.progress) _ of _ _ has (above e) ∙ ap (state_of sheet list) (sym z))
 
     module _ {work' : LocalWork} (z : work'.progress ≡ residuals_recorded work.progress fit.residuals) where
-      pub above_recalls : lt gate most ≡ true → Noted work.memory c (Some (record { reach = (nth near 3).reach; finding = Finding.Idle })) work'.memory → Recalls set p cs sheet work'
+      pub above_recalls : lt gate most ≡ true → Noted work.memory.now c (Some (record { reach = (nth near 3).reach; finding = Finding.Idle })) work'.memory.now → Recalls set p cs sheet work'
       above_recalls e n =
           record {
             remembered = rw z (noted (larger fit.residuals r.remembered) c on (made_above cs set p work.progress.residual sheet c near supports far fit.h fit.residuals (sym of ∙ has) (above e)) n);
@@ -124,7 +124,7 @@ module _ (set : Settings) (p : LocalExtensionParams) {cs : Corners} {sheet list 
           }
 
       module _ (e : lt gate most ≡ false) {point prediction : Position} (at_point : point ≡ cell_point c) (maps : prediction ≡ applied fit.h point) where
-        pub within_recalls : Noted work.memory c (Some (record { reach = (nth near 3).reach; finding = Finding.Predicted prediction })) work'.memory → Recalls set p cs sheet work'
+        pub within_recalls : Noted work.memory.now c (Some (record { reach = (nth near 3).reach; finding = Finding.Predicted prediction })) work'.memory.now → Recalls set p cs sheet work'
         within_recalls n = record { remembered = rw z (noted (larger fit.residuals r.remembered) c on (known e at_point maps) n); unmatched_few = few z }
 
         pub within_foretold : Foretold set p cs sheet work' c (nth near 3).reach prediction
@@ -142,13 +142,13 @@ module _ {set : Settings} {p : LocalExtensionParams} {cs : Corners} {sheet : Lis
   more found = omega (arith, r.unmatched_few, visits_more found work.progress.counts)
 
   -- one cell more is counted
-  pub recalls_counted : (found : TryCellResult) {work' : LocalWork} → work'.memory ≡ work.memory → work'.progress ≡ cell_counted work.progress found → Recalls set p cs sheet work'
+  pub recalls_counted : (found : TryCellResult) {work' : LocalWork} → work'.memory.now ≡ work.memory.now → work'.progress ≡ cell_counted work.progress found → Recalls set p cs sheet work'
   recalls_counted found m e = record { remembered = rw (m, e) r.remembered; unmatched_few = rw e (more found) }
 
   module _ {c : Cell} where
     -- a corner attached
     pub recalls_attached : {list : List ℕ} {k : ℕ} {taken : Corner} {sheet' list' : List ℕ} {work' : LocalWork} → Attaching sheet c k → 4 ≤ label_count sheet
-        → taken ≡ cs.corner k → Wrote sheet list work c k sheet' list' work' → Forgotten work.memory c taken.position work'.memory → Recalls set p cs sheet' work'
+        → taken ≡ cs.corner k → Wrote sheet list work c k sheet' list' work' → Forgotten work.memory.now c taken.position work'.memory.now → Recalls set p cs sheet' work'
     recalls_attached {k = k} a four e w f =
         record {
           remembered = rw (w.sheet_is, w.largest_is) (attach_remembered a four r.remembered (rw e at f));
@@ -158,17 +158,17 @@ module _ {set : Settings} {p : LocalExtensionParams} {cs : Corners} {sheet : Lis
     -- noted where no shade stands
     noted_if : (found : TryCellResult) {known : Known} {work' : LocalWork} → OnSheet c
         → (cs.shades.any ≡ false → KnownAt cs set p work.progress.residual sheet c (Some known)) → work'.progress ≡ cell_counted work.progress found
-        → NotedIfBare cs.shades.any work.memory c known work'.memory → Recalls set p cs sheet work'
+        → NotedIfBare cs.shades.any work.memory.now c known work'.memory.now → Recalls set p cs sheet work'
     noted_if found {known} {work'} on k e n = record { remembered = rw e (go cs.shades.any refl); unmatched_few = rw e (more found) }
       where
-        go : (b : Bool) → cs.shades.any ≡ b → Remembered cs set p work.progress.residual sheet work'.memory
+        go : (b : Bool) → cs.shades.any ≡ b → Remembered cs set p work.progress.residual sheet work'.memory.now
         go true s = rw (n.kept s) r.remembered
         go false s = noted r.remembered c on (k s) (n.bare s)
 
     -- no candidate
     pub recalls_missed : {reach : ℕ} {prediction : Position} {work' : LocalWork} (found : TryCellResult) → OnSheet c → Foretold set p cs sheet work c reach prediction
         → found ≡ try_at cs sheet (tolerances_of set) (local_search set p) c prediction → found ≡ Err NotAttached.NoCandidates → work'.progress ≡ cell_counted work.progress found
-        → NotedIfBare cs.shades.any work.memory c (record { reach = reach; finding = Finding.NoCandidates }) work'.memory → Recalls set p cs sheet work'
+        → NotedIfBare cs.shades.any work.memory.now c (record { reach = reach; finding = Finding.NoCandidates }) work'.memory.now → Recalls set p cs sheet work'
     recalls_missed found on k d g e n = noted_if found on (λ s. (k.known.0, made_no_candidates k.known.1 (sym d ∙ g) s)) e n
 
     -- an ambiguous choice
@@ -176,7 +176,7 @@ module _ {set : Settings} {p : LocalExtensionParams} {cs : Corners} {sheet : Lis
         → OnSheet c → Foretold set p cs sheet work c reach prediction
         → candidates ≡ gathered cs sheet (local_search set p).search_r c prediction → limit ≡ last_distance candidates
         → found ≡ try_at cs sheet (tolerances_of set) (local_search set p) c prediction → found ≡ Err NotAttached.Ambiguous → work'.progress ≡ cell_counted work.progress found
-        → NotedIfBare cs.shades.any work.memory c (record { reach = reach; finding = Finding.Ambiguous prediction limit }) work'.memory → Recalls set p cs sheet work'
+        → NotedIfBare cs.shades.any work.memory.now c (record { reach = reach; finding = Finding.Ambiguous prediction limit }) work'.memory.now → Recalls set p cs sheet work'
     recalls_ambiguous found on k i h d g e n = noted_if found on (λ s. (k.known.0, made_ambiguous k.known.1 (sym d ∙ g) (h ∙ ap last_distance i) s)) e n
 
 -- ---- what is passed over there
@@ -210,13 +210,13 @@ module _ (set : Settings) (p : LocalExtensionParams) (cs : Corners) {sheet list 
       left_as (try_counts cs set p c prediction (state_of sheet list work.progress) ∙ ap (λ (n : ℕ). with_unmatched n (local_with c (try_at cs sheet (tolerances_of set) (local_search set p) c prediction) (state_of sheet list work.progress))) (sym is))
       (counted_left passed e l)
 
-  pub passed_recalls : {work' : LocalWork} → work'.progress ≡ unmatched_counted next.progress passed → {set' : Settings} {p' : LocalExtensionParams} {cs' : Corners} → Recalls set' p' cs' sheet' next → work'.memory ≡ next.memory → Recalls set' p' cs' sheet' work'
+  pub passed_recalls : {work' : LocalWork} → work'.progress ≡ unmatched_counted next.progress passed → {set' : Settings} {p' : LocalExtensionParams} {cs' : Corners} → Recalls set' p' cs' sheet' next → work'.memory.now ≡ next.memory.now → Recalls set' p' cs' sheet' work'
   passed_recalls e m y = record { remembered = rw (y, e) m.remembered; unmatched_few = rw e all_few }
 
 -- ---- by what is known of a cell
 
 module _ {set : Settings} {p : LocalExtensionParams} {cs : Corners} {sheet : List ℕ} {work : LocalWork} (c : Cell)
-    (on : OnSheet c) (r : Recalls set p cs sheet work) {known : Option Known} (is : known ≡ entry_of work.memory (place_of c)) {k : Known} (some : known ≡ Some k) where
+    (on : OnSheet c) (r : Recalls set p cs sheet work) {known : Option Known} (is : known ≡ entry_of work.memory.now (place_of c)) {k : Known} (some : known ≡ Some k) where
   says : Found cs set p work.progress.residual sheet c k.finding
   says = (rw some at (recalled r.remembered c on is)).1
 

@@ -32,6 +32,7 @@ pub record SamePass (before after : LocalWork) : Type 0 where
   pub same_setup : after.setup ≡ before.setup
   pub same_sheet : after.sheet.ghost_name ≡ before.sheet.ghost_name
   pub same_list : after.attached.ghost_name ≡ before.attached.ghost_name
+  pub same_memory : after.memory.ghost_name ≡ before.memory.ghost_name
 
 -- what a function leaves: the buffers hold a state
 abbrev pub Left : LocalWork → LocalWork → LocalState → Type 0
@@ -40,7 +41,7 @@ Left before after s = Holds s before.attached.now after.sheet.now after.attached
 -- what is remembered of the cells holds, on the sheet of now and with the largest residual of now; and no more corners were passed over than 1,024
 -- for each visit
 pub record Recalls (set : Settings) (p : LocalExtensionParams) (cs : Corners) (sheet : List ℕ) (work : LocalWork) : Type 0 where
-  pub remembered : Remembered cs set p work.progress.residual sheet work.memory
+  pub remembered : Remembered cs set p work.progress.residual sheet work.memory.now
   pub unmatched_few : work.progress.unmatched ≤ corner_limit * visits work.progress.counts
 
 abbrev pub RecallsIn : LocalWork → Type 0

@@ -39,7 +39,8 @@ pub struct LocalSetup<'c> {
 }
 
 // A pass: what it is given; the lent sheet; the lent attached list; which corners are used; the labelled places; the label box; what is remembered of
-// the cells; and how far it has come. It is lent to each function, since it is large.
+// the cells, which is lent too, so that its 229,376 bytes are a variable of their own and are cleared once; and how far it has come. It is lent to
+// each function, since it is large.
 #[derive(Drop)]
 pub struct LocalWork<'c, 'a> {
     pub setup: LocalSetup<'c>,
@@ -48,7 +49,7 @@ pub struct LocalWork<'c, 'a> {
     pub used: [bool; CORNERS],
     pub labelled: Labelled,
     pub around: Option<Bounds>,
-    pub memory: Memory,
+    pub memory: &'a mut Memory,
     pub progress: LocalProgress,
     ghost extending: { Extending setup.corners.now.count.number sheet.now attached.now used labelled around progress },
 }
@@ -175,7 +176,7 @@ impl<'c, 'a> LocalWork<'c, 'a> {
         requires { Taking self.old c k }
         ensures same { SamePass self.old self.new }
         ensures wrote { WroteIn self.old self.new c k }
-        ensures forgotten { Forgotten self.old.memory c corner self.new.memory }
+        ensures forgotten { Forgotten self.old.memory.now c corner self.new.memory.now }
     {
         self.attached[self.progress.counts.attached] = sheet::place_of(c) as u16;
         let sheet = &mut *self.sheet;
@@ -229,13 +230,13 @@ impl<'c, 'a> LocalWork<'c, 'a> {
             }
             Err(NotAttached::NoCandidates) => {
                 let known = target.known(Finding::NoCandidates);
-                note_if_bare(self.setup.corners, &mut self.memory, c, known);
+                note_if_bare(self.setup.corners, self.memory, c, known);
                 self.progress.count_cell(found);
             }
             Err(NotAttached::Ambiguous) => {
                 let limit = candidates::last_distance(candidates);
                 let known = target.known(Finding::Ambiguous(target.prediction, limit));
-                note_if_bare(self.setup.corners, &mut self.memory, c, known);
+                note_if_bare(self.setup.corners, self.memory, c, known);
                 self.progress.count_cell(found);
             }
             Err(NotAttached::EdgeRejected) => self.progress.count_cell(found),

@@ -29,7 +29,7 @@ pub invariant_of-work : goal.invariant_of-work
 invariant_of-work c = let a = c.args in let l = a.corners in record { extending = rw (ap (λ (x : Corners). x.count) c.hold.ensures) (accepted_extending (corner_lists l.xs.now l.ys.now l.pitches.now) l.shades.now a.sheet.now a.around a.attached.now a.settings a.params c.requires c.gather.ensures c.if-labels-lt4.false c.mark_used-used.ensures c.around-2.ensures (at_start c.default-progress.ensures)) }
 
 pub local_rounds-rounds-requires-clause-recalls : goal.local_rounds-rounds-requires-clause-recalls
-local_rounds-rounds-requires-clause-recalls c = let a = c.args in let l = a.corners in record { remembered = rw ((at_start c.default-progress.ensures), c.new.ensures) (started (corners_in _) a.settings a.params None a.sheet.now (accepted_radius (corner_lists l.xs.now l.ys.now l.pitches.now) l.shades.now a.sheet.now a.around a.attached.now a.settings a.params c.requires)); unmatched_few = rw (at_start c.default-progress.ensures) (omega arith) }
+local_rounds-rounds-requires-clause-recalls c = let a = c.args in let l = a.corners in record { remembered = rw ((at_start c.default-progress.ensures), c.new-memory.ensures) (started (corners_in _) a.settings a.params None a.sheet.now (accepted_radius (corner_lists l.xs.now l.ys.now l.pitches.now) l.shades.now a.sheet.now a.around a.attached.now a.settings a.params c.requires)); unmatched_few = rw (at_start c.default-progress.ensures) (omega arith) }
 
 pub rim_of-requires : goal.rim_of-requires
 rim_of-requires c = rw c.depth_of-depth.ensures (depth_in c.args.params c.requires.pass_inside.depth)

@@ -5,7 +5,7 @@ use Rattle.local_cell.proofs.Memory.{known_idle, known_no_candidates, known_ambi
 use Rattle.local_cell.proofs.LocalWork.try_local_cell.Goals as goal
 
 pub try_predicted_cell-requires-clause-foretold : goal.try_predicted_cell-requires-clause-foretold
-try_predicted_cell-requires-clause-foretold c = known_foretold _ c.requires.trying.on c.requires.recalls c.recall.ensures.said c.in-Some.is c.in-Predicted.is c.recall.ensures.notable
+try_predicted_cell-requires-clause-foretold c = let f = known_foretold c.args.c c.requires.trying.on c.requires.recalls c.recall.ensures.said c.in-Some.is c.in-Predicted.is c.recall.ensures.notable in record { known = f.known; small = f.small }
 
 pub returns-in-Idle-clause-left : goal.returns-in-Idle-clause-left
 returns-in-Idle-clause-left c = untouched c.args.self.now.extending (known_idle _ c.requires.trying.on c.requires.recalls c.recall.ensures.said c.in-Some.is _ c.in-Idle.is)
