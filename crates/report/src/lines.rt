@@ -60,17 +60,17 @@ pub struct Source<'a> {
 }
 
 impl Source<'_> {
-    // Which line line k is.
+    // Which line line k is: whether it is one of the sheet, as nearly all are, is asked first.
     fn line(&self, k: usize) -> Line
         ensures { IsLine self.now.passes k result }
     {
+        if let Some(m) = k.checked_sub(1 + self.passes + ROLE_LINES) {
+            return Line::OfSheet(m);
+        }
         match k.checked_sub(1) {
             None => Line::Heading,
             Some(m) if m < self.passes => Line::Pass(m),
-            Some(m) if m - self.passes < ROLE_LINES => {
-                Line::OfRole(roles::numbered((m - self.passes) as u32))
-            }
-            Some(m) => Line::OfSheet(m - self.passes - ROLE_LINES),
+            Some(m) => Line::OfRole(roles::numbered((m - self.passes) as u32)),
         }
     }
 
