@@ -22,7 +22,7 @@ use extension_common::{ChoiceRule, Search, Trial, TryCellResult};
 use labels::{Bounds, KeptBox};
 use passes::FillStats;
 use refusal::Refusal;
-use sheet::{Cell, CornerArrays, NO_CORNERS};
+use sheet::{Cell, CornerArrays, CornerCount};
 use sizes::CORNERS;
 
 // Whether a cell lies in the box, or at most so many lines past it by i and by j.
@@ -210,7 +210,18 @@ fn fill_accepted(
 {
     let limit = round_limit(labels::label_count(sheet), params.max_iters);
     let used = labels::mark_used(sheet);
-    let mut held = NO_CORNERS;
+    // No corner, as `sheet::NO_CORNERS` has it. By that name, or with the NaNs in the struct, the arrays are built beside `held` and copied, which
+    // takes 24 or 12 KB more of stack.
+    let mut held = CornerArrays {
+        xs: [0.0; CORNERS],
+        ys: [0.0; CORNERS],
+        pitches: [0.0; CORNERS],
+        shades: None,
+        count: CornerCount { number: 0 },
+    };
+    held.xs.fill(f32::NAN);
+    held.ys.fill(f32::NAN);
+    held.pitches.fill(f32::NAN);
     corners.hold(&mut held);
     let mut filling = Filling {
         corners: &held,

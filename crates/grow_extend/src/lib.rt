@@ -23,7 +23,7 @@ use grow_queue::Queue;
 use labels::{Bounds, KeptBox};
 use passes::{Counts, GrowStats};
 use refusal::Refusal;
-use sheet::{Cell, CornerArrays, NO_CORNERS};
+use sheet::{Cell, CornerArrays, CornerCount};
 use sizes::CORNERS;
 
 // The settings of a call, and the numbers of the pass.
@@ -200,10 +200,21 @@ fn extend(
         ≡ grow_leaves (Outcome.done (grow_after (corners_of (lists_of corners.entry) corners.entry.shades.now)
         settings params sheet.old)) sheet.old queue.old attached.old }
 {
-    let mut held = NO_CORNERS;
+    // No corner, as `sheet::NO_CORNERS` has it. By that name, or with the NaNs in the struct, the arrays are built beside `held` and copied, which
+    // takes 24 or 12 KB more of stack.
+    let mut held = CornerArrays {
+        xs: [0.0; CORNERS],
+        ys: [0.0; CORNERS],
+        pitches: [0.0; CORNERS],
+        shades: None,
+        count: CornerCount { number: 0 },
+    };
+    held.xs.fill(f32::NAN);
+    held.ys.fill(f32::NAN);
+    held.pitches.fill(f32::NAN);
+    let mut queue = Queue::new(queue);
     corners.hold(&mut held);
     let used = labels::mark_used(sheet);
-    let mut queue = Queue::new(queue);
     let mut growing = Growing {
         corners: &held,
         setup: GrowSetup { settings, params },

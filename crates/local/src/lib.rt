@@ -27,7 +27,7 @@ use passes::LocalStats;
 use refusal::Refusal;
 use region::{Region, Window};
 use remembered::Memory;
-use sheet::NO_CORNERS;
+use sheet::{CornerArrays, CornerCount};
 use sizes::CORNERS;
 use supports::Labelled;
 
@@ -169,7 +169,18 @@ fn local_accepted(
         return (stats, left);
     }
     let mut memory = Memory::new();
-    let mut held = NO_CORNERS;
+    // No corner, as `sheet::NO_CORNERS` has it. By that name, or with the NaNs in the struct, the arrays are built beside `held` and copied, which
+    // takes 24 or 12 KB more of stack.
+    let mut held = CornerArrays {
+        xs: [0.0; CORNERS],
+        ys: [0.0; CORNERS],
+        pitches: [0.0; CORNERS],
+        shades: None,
+        count: CornerCount { number: 0 },
+    };
+    held.xs.fill(f32::NAN);
+    held.ys.fill(f32::NAN);
+    held.pitches.fill(f32::NAN);
     corners.hold(&mut held);
     let setup = LocalSetup {
         corners: &held,

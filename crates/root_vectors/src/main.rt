@@ -9,7 +9,6 @@ ghost use Rattle.std.specs.Prelude.{◌≤◌};
 use refusal::Refusal;
 use std::io;
 use std::io::Read;
-use std::num::f32_to_bits_with_nan;
 
 // A line so far: its first nine bytes, and how many bytes it has, where nine stands for nine and more.
 // Stays: the bytes are kept in fixed memory, so that how many there are stands beside them (a).
@@ -33,8 +32,9 @@ fn print_refused(rt: &impl Print, refusal: Refusal) -> io::Result<()> {
 
 // A float's eight digits on a line. Any NaN is printed as 7fc00000.
 fn print_float(rt: &impl Print, x: f32) -> io::Result<()> {
-    let bits = f32_to_bits_with_nan(x);
-    println!(rt; "{bits:08x}")
+    let mut text = [b'\n'; 9];
+    binary32::hex::write_float(x, &mut text);
+    rt.write_all(&text)
 }
 
 // The root of the float that a line stands for.

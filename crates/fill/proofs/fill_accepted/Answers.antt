@@ -11,7 +11,7 @@ use Rattle.fill.proofs.fill_accepted.Goals as goal
 
 pub hold-requires : goal.hold-requires
 unfolding of_bits
-hold-requires c = holdable _ _ _ c.requires refl refl refl refl
+hold-requires c = holdable _ _ _ c.requires (c.fill.ensures.after (λ _ e. e)) (c.fill-2.ensures.after (λ _ e. e)) (c.fill-3.ensures.after (λ _ e. e)) refl
 
 pub returns : goal.returns
 returns c =

@@ -23,7 +23,7 @@ returns-then-labels-lt4 c = let a = c.args in let l = a.corners in pass_few (cor
 
 pub hold-requires : goal.hold-requires
 unfolding of_bits
-hold-requires c = holdable _ _ _ c.requires refl refl refl refl
+hold-requires c = holdable _ _ _ c.requires (c.fill.ensures.after (λ _ e. e)) (c.fill-2.ensures.after (λ _ e. e)) (c.fill-3.ensures.after (λ _ e. e)) refl
 
 pub invariant_of-work : goal.invariant_of-work
 invariant_of-work c = let a = c.args in let l = a.corners in record { extending = rw (ap (λ (x : Corners). x.count) c.hold.ensures) (accepted_extending (corner_lists l.xs.now l.ys.now l.pitches.now) l.shades.now a.sheet.now a.around a.attached.now a.settings a.params c.requires c.gather.ensures c.if-labels-lt4.false c.mark_used-used.ensures c.around-2.ensures (at_start c.default-progress.ensures)) }
