@@ -17,7 +17,7 @@
  * - The buffers of one call must not overlap one another.
  * - A start must not be null and must be aligned for its type, even where the length is 0.
  * - No other thread may write to a buffer during a call, or read one that the call may write to.
- * - Stack: a pass needs some 280 KB of it, whichever it is, the reader 68 KB, the writers less; a thread of 300 KB is enough
+ * - Stack: a pass needs some 260 KB of it, whichever it is, the reader 68 KB, the writers less; a thread of 300 KB is enough
  *   for all.
  *
  * A buffer may be longer than needed.

@@ -117,7 +117,7 @@ holds_state {s} {before} h =
 
 -- one function after another: it is the same pass
 pub same_then : {a b c : LocalWork} → SamePass a b → SamePass b c → SamePass a c
-same_then l m = record { same_setup = m.same_setup ∙ l.same_setup; same_sheet = m.same_sheet ∙ l.same_sheet; same_list = m.same_list ∙ l.same_list; same_memory = m.same_memory ∙ l.same_memory }
+same_then l m = record { same_setup = m.same_setup ∙ l.same_setup; same_sheet = m.same_sheet ∙ l.same_sheet; same_list = m.same_list ∙ l.same_list; same_labelled = m.same_labelled ∙ l.same_labelled; same_memory = m.same_memory ∙ l.same_memory }
 
 -- the rest of the list is as it was before the first
 pub left_then : {s after : LocalState} {before sheet list sheet' list' : List ℕ} {at at' : LocalProgress} → Holds s before sheet list at

@@ -193,7 +193,7 @@ fn local_accepted(
         sheet,
         attached,
         used,
-        labelled,
+        labelled: &mut labelled,
         around: around.around(),
         memory: &mut memory,
         progress,

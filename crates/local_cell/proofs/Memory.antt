@@ -57,8 +57,8 @@ pub reaches_small : {n : ℕ} {sheet list : List ℕ} {used : List Bool} {labell
 reaches_small c f on e = nearest_small (nearby f c on) e
 
 module _ (set : Settings) (p : LocalExtensionParams) {cs : Corners} {sheet list : List ℕ} {work : LocalWork} (c : Cell)
-    (f : Extending cs.count sheet list work.used work.labelled work.around work.progress) (on : OnSheet c) (r : Recalls set p cs sheet work) (near : List Support)
-    (nearest : near ≡ nearest_among c (take work.labelled.count work.labelled.places)) {found : Option SupportFit}
+    (f : Extending cs.count sheet list work.used work.labelled.now work.around work.progress) (on : OnSheet c) (r : Recalls set p cs sheet work) (near : List Support)
+    (nearest : near ≡ nearest_among c (take work.labelled.now.count work.labelled.now.places)) {found : Option SupportFit}
     (is : found ≡ support_fit_of (local_fit (seen_of cs.corner sheet) (places_of near))) where
   supports : places_of near ≡ supports_of c sheet
   supports = supports_are f c near (nearest_places (nearby f c on) nearest)
@@ -105,7 +105,7 @@ module _ (set : Settings) (p : LocalExtensionParams) {cs : Corners} {sheet list 
       within_visit f = rw (f, mapped) (visit_fitted cs set p c (state_of sheet list work.progress) _ of _ _ has within)
 
     module _ {at' : LocalProgress} (z : at' ≡ residuals_recorded work.progress fit.residuals) where
-      recorded : Extending cs.count sheet list work.used work.labelled work.around at'
+      recorded : Extending cs.count sheet list work.used work.labelled.now work.around at'
       recorded = extending_as f refl refl refl (ap (λ (x : LocalProgress). x.counts.attached) z)
 
       few : at'.unmatched ≤ 1024 * visits at'.counts

@@ -134,7 +134,7 @@ module _ (sheet : List ℕ) (c : Cell) (k : ℕ) {first second : List ℕ} (e : 
       let long : 16384 ≤ length (attached sheet c k) = rw (attached_changes sheet c w.sheet_cell.long w.sheet_cell.on k (omega (arith, w.entry))).same_length w.sheet_cell.long in
       rw both_changes (record { long = rw (cleared_changes (attached sheet c k) c long w.sheet_cell.on).same_length long; few = w.few })
 
-  pub wrote : {list : List ℕ} {work work' : LocalWork} {place : ℕ} → place ≡ place_of c → Gathered second work.labelled.places work'.labelled.places work'.labelled.count
+  pub wrote : {list : List ℕ} {work work' : LocalWork} {place : ℕ} → place ≡ place_of c → Gathered second work.labelled.now.places work'.labelled.now.places work'.labelled.now.count
       → work'.used ≡ set work.used k true → work'.progress.counts ≡ one_more (Ok k) work.progress.counts
       → work'.progress.residual ≡ work.progress.residual → work'.progress.unmatched ≡ work.progress.unmatched
       → Wrote sheet list work c k second (set list work.progress.counts.attached place) work'
@@ -271,7 +271,7 @@ module _ {work : LocalWork} {c : Cell} {k : ℕ} (t : Taking work c k) where
 
   -- and all may go on
   pub took_extending : {first second : List ℕ} (place : ℕ) {labelled' : Labelled} {around' : Option Bounds} {at' : LocalProgress} → first ≡ attached work.sheet.now c k → second ≡ marks_cleared first c
-      → Gathered second work.labelled.places labelled'.places labelled'.count → around' ≡ widened work.around c → at'.counts ≡ one_more (Ok k) work.progress.counts
+      → Gathered second work.labelled.now.places labelled'.places labelled'.count → around' ≡ widened work.around c → at'.counts ≡ one_more (Ok k) work.progress.counts
       → Extending work.setup.corners.now.count.number second (set work.attached.now work.progress.counts.attached place) (set work.used k true) labelled' around' at'
   took_extending place {labelled'} {around'} {at'} e g w b h =
       let f = work.extending in

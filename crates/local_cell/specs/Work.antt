@@ -32,6 +32,7 @@ pub record SamePass (before after : LocalWork) : Type 0 where
   pub same_setup : after.setup ≡ before.setup
   pub same_sheet : after.sheet.ghost_name ≡ before.sheet.ghost_name
   pub same_list : after.attached.ghost_name ≡ before.attached.ghost_name
+  pub same_labelled : after.labelled.ghost_name ≡ before.labelled.ghost_name
   pub same_memory : after.memory.ghost_name ≡ before.memory.ghost_name
 
 -- what a function leaves: the buffers hold a state
@@ -75,7 +76,7 @@ pub record Wrote (sheet list : List ℕ) (work : LocalWork) (c : Cell) (k : ℕ)
   pub sheet_is : sheet' ≡ attached_clear sheet c k
   pub list_is : list' ≡ set list work.progress.counts.attached (place_of c)
   pub used_is : work'.used ≡ set work.used k true
-  pub places_are : Gathered (attached_clear sheet c k) work.labelled.places work'.labelled.places work'.labelled.count
+  pub places_are : Gathered (attached_clear sheet c k) work.labelled.now.places work'.labelled.now.places work'.labelled.now.count
   pub counts_are : work'.progress.counts ≡ one_more (Ok k) work.progress.counts
   pub largest_is : work'.progress.residual ≡ work.progress.residual
   pub unmatched_is : work'.progress.unmatched ≡ work.progress.unmatched

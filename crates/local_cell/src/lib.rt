@@ -39,19 +39,19 @@ pub struct LocalSetup<'c> {
 }
 
 // A pass: what it is given; the lent sheet; the lent attached list; which corners are used; the labelled places; the label box; what is remembered of
-// the cells, which is lent too, so that its 229,376 bytes are a variable of their own and are cleared once; and how far it has come. It is lent to
-// each function, since it is large.
+// the cells; and how far it has come. What is remembered, 229,376 bytes, and the labelled places, 2,056, are lent too: so they are variables of their
+// own, which are cleared once and not copied. It is lent to each function, since it is large.
 #[derive(Drop)]
 pub struct LocalWork<'c, 'a> {
     pub setup: LocalSetup<'c>,
     pub sheet: &'a mut [u16],
     pub attached: &'a mut [u16],
     pub used: [bool; CORNERS],
-    pub labelled: Labelled,
+    pub labelled: &'a mut Labelled,
     pub around: Option<Bounds>,
     pub memory: &'a mut Memory,
     pub progress: LocalProgress,
-    ghost extending: { Extending setup.corners.now.count.number sheet.now attached.now used labelled around progress },
+    ghost extending: { Extending setup.corners.now.count.number sheet.now attached.now used labelled.now around progress },
 }
 
 // A cell that is to be tried where its fit maps it to: how far its fourth support is, and the prediction.

@@ -13,7 +13,7 @@ loop-place-init c =
       window_is = s.window_is;
       walking = rw s.from_is (walking_start c.args.work.now.setup.corners.now.count.few);
       recalls = c.requires.recalls;
-      same = record { same_setup = refl; same_sheet = refl; same_list = refl; same_memory = refl };
+      same = record { same_setup = refl; same_sheet = refl; same_list = refl; same_labelled = refl; same_memory = refl };
     })
 
 pub try_local_cell-requires-clause-trying : goal.try_local_cell-requires-clause-trying
