@@ -10,6 +10,8 @@ use borrow.Author.Tests.{eq-eqb, ne_eqb, lt-ltb, le-ltb, ltb-true}
 use lib.Dec.{eqb, ltb}
 use lib.ListN.{get_or}
 use lib.Ieee.{Float, nan, binary32, neg, lt, eq}
+use Rattle.std.specs.Bool.{then_some}
+use Rattle.std.specs.Result.{result_ok}
 use Rattle.binary32.specs.Ranges.{is_finite, all_finite}
 use Rattle.binary32.specs.Numbers.{nought}
 use Rattle.elimination.specs.Rounded.{◌⊗◌, magnitude}
@@ -17,7 +19,7 @@ use Rattle.elimination.specs.Tables.{table, concatenated, every}
 use Rattle.elimination.specs.Solve.{Row, Matrix, row, entry, values, largest, swapped, pivoted, reciprocal, multiplier, gain, gained, cleared, eliminated, pivot_of, no_zero_pivot, gain_steps, lower_steps, column_steps, elimination_steps, right_sides, answer, carry, carried, answered, carry_steps, answer_steps, solve_steps, answers_of, sound_of, solved, nonzero_diagonal, finite_matrix, finite_answers}
 use Rattle.elimination.proofs.Tables.{get_d_table, both, same, every_true, every_at, every_same}
 use Rattle.elimination.proofs.Finite.{add_finite, mul_finite, div_finite, one_finite, none_finite, parts_finite, append_finite, gathered_finite, gathered_at, gathered_true, where_true, table_finite}
-use Rattle.std.specs.Prelude.{Ok, Err}
+use Rattle.std.specs.Prelude.{Ok, Err, Some, None}
 use Rattle.elimination.proofs.Rows.{eliminated_suc, answered_suc}
 
 -- ---- a matrix of finite values
@@ -314,3 +316,17 @@ module _ (a m : Matrix) (b : Row) (t : Bool) (em : m ≡ eliminated 8 a) (eb : b
 
   pub solved_err : t ≡ false → Err b ≡ solved a
   solved_err e = rw (← solved_is, e)
+
+  -- and those that count alone, none where they do not
+  pub solved_some : t ≡ true → Some b ≡ result_ok (solved a)
+  solved_some e = ap result_ok (solved_ok e)
+
+  pub solved_none : t ≡ false → None ≡ result_ok (solved a)
+  solved_none e = ap result_ok (solved_err e)
+
+  pub solved_by_count : then_some t b ≡ result_ok (solved a)
+  solved_by_count = go t refl
+    where
+      go : (u : Bool) → t ≡ u → then_some u b ≡ result_ok (solved a)
+      go true e = solved_some e
+      go false e = solved_none e

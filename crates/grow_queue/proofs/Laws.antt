@@ -10,11 +10,11 @@ use Prim.Native.Nat.{ℕ, ◌+◌, ◌*◌, ◌<◌, ◌≤◌}
 use native.Mathlib.Decide.{ℕ_discrete}
 use native.Mathlib.Numerals.{add-one}
 use native.Mathlib.Omega.{arith}
-use borrow.Author.Tests.{eq-eqb, ne_eqb}
+use borrow.Author.Tests.{eq-eqb, ne_eqb, not-true}
 use lib.Dec.{T, eqb}
 use lib.IntN.{pos}
 use lib.ListN.{length, get_or, drop, set, length-set, length-append}
-use lib.Seq.{get_or-set_same, get_or-set_other, drop-cons, length-take-le}
+use lib.Seq.{get_or-set_same, get_or-set_other, take-suc-set, drop-cons, length-take-le}
 use Rattle.sheet.specs.Cells.{on_sheet, OnSheet, place_of, cell_of, moved}
 use Rattle.sheet.specs.Words.{label_at}
 use Rattle.sheet.specs.declared.Cell.{Cell}
@@ -48,6 +48,15 @@ on_places_more {cells} o p h = record { below = λ i l. go i l (ℕ_discrete i (
     go : (i : ℕ) → i < length (cells ++ (p ∷ [])) → Dec (i ≡ length cells) → get_or (cells ++ (p ∷ [])) i 0 < 16384
     go i l (yes d) = rw (d, last_at cells p) h
     go i l (no d) = let k : i < length cells = omega (arith, length-append cells (p ∷ [])) in rw (older_at cells p i k) (o.below i k)
+
+pub so_far_more : (queue : List ℕ) (n p : ℕ) → n < length queue → so_far (set queue n p) (n + 1) ≡ so_far queue n ++ (p ∷ [])
+so_far_more queue n p h = rw add-one (take-suc-set queue n p h)
+
+pub queued_length : (q : Queue) → length (queued q) ≡ q.tail
+queued_length q = length-take-le q.tail q.places.now q.within
+
+pub more_count : (q : Queue) (p : ℕ) → q.tail + 1 ≡ length (queued q ++ (p ∷ []))
+more_count q p = omega (arith, length-append (queued q) (p ∷ []), queued_length q)
 
 -- ---- what a lent buffer holds, one step after the other
 
@@ -93,6 +102,9 @@ module _ (sheet cells : List ℕ) (c : Cell) (w : wanted sheet cells c ≡ true)
   pub wanted_on : OnSheet c
   wanted_on = subst T (sym facts.0) tt
 
+  pub wanted_new : member (place_of c) cells ≡ false
+  wanted_new = not-true _ (both _ _ facts.1).1
+
   pub wanted_below : {p : ℕ} → p ≡ place_of c → p < 16384
   wanted_below is = rw is (place_in c wanted_on)
 
@@ -100,13 +112,13 @@ module _ {sheet queue : List ℕ} {seen : List Bool} {tail : ℕ} (c : Cell) (w 
   upto : tail ≤ length queue
   upto = omega (arith, w.room)
 
-  pub enqueued_not : wanted sheet (so_far queue tail) c ≡ false → PlacesHeld queue queue seen tail (enqueued sheet c (so_far queue tail))
+  pub places_unwanted : wanted sheet (so_far queue tail) c ≡ false → PlacesHeld queue queue seen tail (enqueued sheet c (so_far queue tail))
   unfolding enqueued
-  enqueued_not e = rw e (places_own queue seen tail upto w.flagged)
+  places_unwanted e = rw e (places_own queue seen tail upto w.flagged)
 
-  pub enqueued_yes : wanted sheet (so_far queue tail) c ≡ true → {p : ℕ} → p ≡ place_of c → PlacesHeld queue (set queue tail p) (set seen p true) (tail + 1) (enqueued sheet c (so_far queue tail))
+  pub places_wanted : wanted sheet (so_far queue tail) c ≡ true → {p : ℕ} → p ≡ place_of c → PlacesHeld queue (set queue tail p) (set seen p true) (tail + 1) (enqueued sheet c (so_far queue tail))
   unfolding enqueued
-  enqueued_yes e {p} is =
+  places_wanted e {p} is =
       let l : length (so_far queue tail) ≡ tail = length-take-le tail queue upto in
       let below : p < 16384 = wanted_below sheet (so_far queue tail) c e is in
       rw (e, ← is)
@@ -115,6 +127,17 @@ module _ {sheet queue : List ℕ} {seen : List Bool} {tail : ℕ} (c : Cell) (w 
         count = omega (arith, length-append (so_far queue tail) (p ∷ []));
         flagged = flagged_more w.flagged p below;
       })
+
+-- the same of a queue
+module _ (sheet : List ℕ) (q : Queue) (c : Cell) where
+  pub enqueued_not : wanted sheet (queued q) c ≡ false → QueueHeld q q (enqueued sheet c (queued q))
+  unfolding enqueued
+  enqueued_not e = rw e (holds_own q)
+
+  module _ (w : wanted sheet (queued q) c ≡ true) where
+    pub enqueued_yes : {after : Queue} {p : ℕ} → p ≡ place_of c → QueueHeld q after (queued q ++ (p ∷ [])) → QueueHeld q after (enqueued sheet c (queued q))
+    unfolding enqueued
+    enqueued_yes e h = rw w (rw e at h)
 
 -- whether a cell on the sheet is wanted, by its place
 pub place_below : (c : Cell) → on_sheet c ≡ true → {p : ℕ} → p ≡ place_of c → p < 16384
@@ -207,17 +230,14 @@ module _ {sheet : List ℕ} (q : Queue) (w : Room 4 sheet q) where
   spread_room = record { long = w.long; room = w.room; flagged = q.flagged }
 
   module _ (c : Cell) {after : List ℕ} {seen : List Bool} {tail : ℕ} (h : PlacesHeld q.places.now after seen tail (spread sheet c (so_far q.places.now q.tail))) where
-    before : length (queued q) ≡ q.tail
-    before = length-take-le q.tail q.places.now q.within
-
     pub spread_within : tail ≤ length after
     spread_within =
         let l = spread_longer sheet c (queued q) in
-        let e : length after ≡ length q.places.now = places_length h (omega (arith, l.few, before, w.room)) in
-        omega (arith, e, h.count, l.few, before, w.room)
+        let e : length after ≡ length q.places.now = places_length h (omega (arith, l.few, queued_length q, w.room)) in
+        omega (arith, e, h.count, l.few, queued_length q, w.room)
 
     pub spread_upto : q.head ≤ tail
-    spread_upto = omega (arith, q.upto, h.count, before, (spread_longer sheet c (queued q)).more)
+    spread_upto = omega (arith, q.upto, h.count, queued_length q, (spread_longer sheet c (queued q)).more)
 
     pub spread_flagged : Flagged (so_far after tail) seen
     spread_flagged = rw (places_read h) h.flagged

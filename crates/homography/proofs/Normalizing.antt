@@ -5,9 +5,11 @@ use mathlib.Core.Bool.{Bool, true, false, cond, ◌&&◌, true≢false}
 use mathlib.Core.List.{List, [], ◌∷◌, ◌++◌}
 use Prim.Native.Nat.{ℕ, zero, suc, ◌<◌}
 use native.Mathlib.Omega.{arith}
-use Rattle.std.specs.Prelude.{Ok, Err, fold}
+use Rattle.std.specs.Prelude.{Ok, Err, Some, None, fold}
+use Rattle.std.specs.Result.{result_ok}
 use lib.ListN.{length, get_or}
 use lib.Ieee.{Float, nan, inf, fin, binary32, neg, lt, of_bits, to_bits}
+use Rattle.std.specs.Bool.{then_some}
 use Rattle.binary32.specs.Ranges.{is_finite, all_finite}
 use Rattle.binary32.specs.Sqrt.{units_of, reaches, climb, rooted, sqrt_or_nan}
 use Rattle.elimination.specs.Rounded.{◌⊕◌, ◌⊖◌, ◌⊗◌, ◌⊘◌}
@@ -257,3 +259,17 @@ module _ (ps : List Position) {cx cy d s : Float} {xs ys ds m : List Float} {qs 
 
   pub normalized_err : ok ≡ false → Err (record { points = qs; by = record { scale = s; cx = cx; cy = cy } }) ≡ normalized_of ps
   normalized_err e = rw (← normalized_is, e)
+
+  -- and those that count alone, none where they do not
+  pub normalized_some : ok ≡ true → Some (record { points = qs; by = record { scale = s; cx = cx; cy = cy } }) ≡ result_ok (normalized_of ps)
+  normalized_some e = ap result_ok (normalized_ok e)
+
+  pub normalized_none : ok ≡ false → None ≡ result_ok (normalized_of ps)
+  normalized_none e = ap result_ok (normalized_err e)
+
+  pub normalized_by_count : then_some ok (record { points = qs; by = record { scale = s; cx = cx; cy = cy } }) ≡ result_ok (normalized_of ps)
+  normalized_by_count = go ok refl
+    where
+      go : (t : Bool) → ok ≡ t → then_some t (record { points = qs; by = record { scale = s; cx = cx; cy = cy } }) ≡ result_ok (normalized_of ps)
+      go true e = normalized_some e
+      go false e = normalized_none e

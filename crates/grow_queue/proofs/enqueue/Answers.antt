@@ -5,7 +5,7 @@ use Prim.Native.Nat.{◌<◌}
 use native.Mathlib.Omega.{arith}
 use Rattle.passes.specs.Grow.{wanted}
 use Rattle.grow_queue.specs.Places.{so_far}
-use Rattle.grow_queue.proofs.Laws.{wanted_on, wanted_below, enqueued_yes, enqueued_not}
+use Rattle.grow_queue.proofs.Laws.{wanted_on, wanted_below, places_wanted, places_unwanted}
 use Rattle.grow_queue.proofs.enqueue.Goals as goal
 use Rattle.grow_queue.proofs.enqueue.Goals.{Then-wants, After-place_of-place}
 
@@ -25,7 +25,7 @@ pub bounds-seen-place : goal.bounds-seen-place
 bounds-seen-place c = below (goal.at.bounds-seen-place c).After-place_of-place
 
 pub returns-then-wants : goal.returns-then-wants
-returns-then-wants c = enqueued_yes _ c.requires (here (goal.at.returns-then-wants c).Then-wants) c.place_of-place.ensures
+returns-then-wants c = places_wanted _ c.requires (here (goal.at.returns-then-wants c).Then-wants) c.place_of-place.ensures
 
 pub returns-else-wants : goal.returns-else-wants
-returns-else-wants c = enqueued_not _ c.requires (sym (c.wants.ensures _ c.requires.flagged) ∙ c.if-wants.false)
+returns-else-wants c = places_unwanted _ c.requires (sym (c.wants.ensures _ c.requires.flagged) ∙ c.if-wants.false)

@@ -5,7 +5,7 @@ use Rattle.std.proofs.Common.{rules}
 use Rattle.std.proofs.lemmas.Iterator.{YieldsList-from_slice}
 use Rattle.std.proofs.lemmas.Iterator.Consumers.{fold_from_yields_List}
 use Rattle.frame_number.specs.declared.NumberRefusals.{NumberRefusals}
-use Rattle.frame_number.proofs.Laws.{none_found, with_one, FoundOf, found_of}
+use Rattle.frame_number.proofs.Laws.{none_found, with_one, FoundAmong, found_of}
 use Rattle.frame_number.proofs.NumberRefusals.of.Goals as goal
 use Rattle.frame_number.proofs.NumberRefusals.of.Goals.{After-fold}
 
@@ -14,8 +14,8 @@ folded c =
     fold_from_yields_List _ with_one _ _ c.fold.ensures.ran (YieldsList-from_slice c.args.each cc) (λ a x b q k. (search rules, search rules))
     ∙ ap (λ (f : NumberRefusals). fold with_one f c.args.each) (search rules)
 
-all : (c : After-fold) → FoundOf c.args.each c.fold.result
-all c = subst (FoundOf c.args.each) (sym (folded c)) (found_of c.args.each (search rules))
+all : (c : After-fold) → FoundAmong c.args.each c.fold.result
+all c = subst (FoundAmong c.args.each) (sym (folded c)) (found_of c.args.each (search rules))
 
 pub returns-clause-same : goal.returns-clause-same
 returns-clause-same c = (all c).same
